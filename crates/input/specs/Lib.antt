@@ -1,0 +1,4 @@
+pub mod Bytes
+pub mod Errata
+pub mod Numbers
+pub mod Benches
