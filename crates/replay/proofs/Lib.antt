@@ -1,0 +1,2 @@
+pub mod Replaying
+mod Laws
