@@ -5,6 +5,7 @@ use Prim.Native.Nat.{ℕ, _-_, _≤_}
 use native.Mathlib.Omega.{arith}
 use lib.Dec.{leb, ltb, lit≤}
 use lib.ListN.{length, getD, take, drop, length-take, length-drop}
+use Rattle.std.proofs.shelf.Tests.{cond-both, leb-true}
 use Rattle.std.specs.declared.option.Option.{Option}
 use Rattle.std.specs.declared.option.Option.the-variants.{None, Some}
 
@@ -24,6 +25,15 @@ byte-at bytes place = cond (ltb place (length bytes)) (Some (getD bytes place 0)
 -- what a slice input shows of the caller's bytes: all, or none where they are too many
 abbrev pub slice-of : List ℕ → List ℕ
 slice-of bytes = cond (leb (length bytes) longest) bytes []
+
+-- a slice that is shown is not too long
+pub slice-short : (bytes : List ℕ) → length (slice-of bytes) ≤ longest
+slice-short bytes =
+    cond-both (leb (length bytes) longest) bytes [] (λ shown. length shown ≤ longest) (λ t. leb-true (length bytes) longest t) (λ f. lit≤ tt)
+
+-- what a slice input shows
+abbrev pub slice-shown : List ℕ → Shown
+slice-shown bytes = record { bytes = slice-of bytes; short = slice-short bytes }
 
 -- whether a window l r of n bytes is in order and not past the end
 abbrev pub in-order : ℕ → ℕ → ℕ → Bool
