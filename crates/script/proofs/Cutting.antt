@@ -7,6 +7,7 @@ use lib.Dec.{eqb}
 use native.Mathlib.Omega.{arith}
 use lib.ListN.{length, getD, take, drop, length-drop}
 use Rattle.std.proofs.shelf.Lists.{at-drop-more, at-drop-all, take-all, take-more}
+use Rattle.std.proofs.shelf.Tests.{cond-both}
 use Rattle.script.specs.Pieces.{until, after, trimmed}
 
 -- a slice from a place on
@@ -56,3 +57,16 @@ module _ (xs : List ℕ) (i d : ℕ) where
   pub trimmed-end : length xs ≤ i → trimmed (drop i xs) ≡ []
   unfolding trimmed
   trimmed-end h = at-drop-all trimmed xs i h
+
+after-within : (s : ℕ) (xs : List ℕ) → length (after s xs) ≤ length xs
+unfolding after
+after-within s [] = omega arith
+after-within s (b ∷ bs) =
+    cond-both (eqb b s) bs (after s bs) (λ z. length z ≤ length (b ∷ bs)) (λ t. omega arith) (λ f. omega (arith, after-within s bs))
+
+-- a text that is not empty gets shorter with each line
+pub after-shorter : (s : ℕ) (xs : List ℕ) → 0 < length xs → length (after s xs) < length xs
+unfolding after
+after-shorter s [] h = absurd (omega arith)
+after-shorter s (b ∷ bs) h =
+    cond-both (eqb b s) bs (after s bs) (λ z. length z < length (b ∷ bs)) (λ t. omega arith) (λ f. omega (arith, after-within s bs))

@@ -18,3 +18,10 @@ after s (b ∷ bs) = cond (eqb b s) bs (after s bs)
 unfoldable pub trimmed : List ℕ → List ℕ
 trimmed [] = []
 trimmed (b ∷ bs) = cond (eqb b 0x20) (trimmed bs) (b ∷ bs)
+
+-- the first word of a line, empty where there is none, and what follows it
+abbrev pub word : List ℕ → List ℕ
+word line = until 0x20 (trimmed line)
+
+abbrev pub after-word : List ℕ → List ℕ
+after-word line = after 0x20 (trimmed line)

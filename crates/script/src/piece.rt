@@ -1,5 +1,7 @@
 ghost use mathlib.Core.Path.{_≡_};
-ghost use Rattle.script.specs.Pieces.{until, after, trimmed};
+ghost use Prim.Native.Nat.{_<_};
+ghost use lib.ListN.{length};
+ghost use Rattle.script.specs.Pieces.{until, after, trimmed, word, after-word};
 
 const SPACE: u8 = 0x20;
 
@@ -34,6 +36,7 @@ fn cut_at(text: &[u8], separator: u8) -> Cut<'_>
 pub fn cut_line(text: &[u8]) -> Cut<'_>
     ensures piece { λ r. ⌜ now (r .piece) ≡ until 0x0A (now (text .entry)) ⌝ }
     ensures rest { λ r. ⌜ now (r .rest) ≡ after 0x0A (now (text .entry)) ⌝ }
+    ensures shorter { λ r. ⌜ (0 < length (now (text .entry)) → length (now (r .rest)) < length (now (text .entry))) ⌝ }
 {
     cut_at(text, LINE_END)
 }
@@ -51,8 +54,8 @@ fn trim(text: &[u8]) -> &[u8]
 
 /// The first word of a line, empty where there is none, and what follows it.
 pub fn cut_word(line: &[u8]) -> Cut<'_>
-    ensures piece { λ r. ⌜ now (r .piece) ≡ until 0x20 (trimmed (now (line .entry))) ⌝ }
-    ensures rest { λ r. ⌜ now (r .rest) ≡ after 0x20 (trimmed (now (line .entry))) ⌝ }
+    ensures piece { λ r. ⌜ now (r .piece) ≡ word (now (line .entry)) ⌝ }
+    ensures rest { λ r. ⌜ now (r .rest) ≡ after-word (now (line .entry)) ⌝ }
 {
     cut_at(trim(line), SPACE)
 }

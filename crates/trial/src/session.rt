@@ -35,7 +35,7 @@ fn empty(heap: Global) -> Bench<Source> {
 
 // The bytes of a file, or none where it cannot be read; of a file that is too long only the front.
 fn read_file(rt: &LibcRuntime, path: &[u8]) -> Option<Vec<u8>> {
-    let Ok(path) = str::from_utf8(path) else {
+    let Ok(path) = std::str::from_utf8(path) else {
         return None;
     };
     let Ok(file) = fs::open(rt, path) else {
