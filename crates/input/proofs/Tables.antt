@@ -1,4 +1,4 @@
--- The errata that a patch table holds. Assumes nothing.
+-- The errata that a patch table holds.
 use mathlib.Core.Path.{_≡_, refl, sym, ap, _∙_}
 use mathlib.Core.List.{List, [], _∷_, _++_, map}
 use Prim.Native.Nat.{ℕ, _+_, _≤_, _<_}

@@ -1,4 +1,4 @@
--- The bytes of a window. Assumes nothing.
+-- The bytes of a window.
 use mathlib.Core.Path.{_≡_, refl, sym, ap, _∙_}
 use mathlib.Core.List.{List, []}
 use mathlib.Core.Bool.{Bool, true, false, cond, _&&_}

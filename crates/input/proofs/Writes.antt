@@ -1,4 +1,4 @@
--- What is shown at a place under errata. Assumes nothing.
+-- What is shown at a place under errata.
 use mathlib.Core.Path.{_≡_, refl, sym, ap, _∙_}
 use mathlib.Core.Logic.{_⊎_, inl, inr, ⊎-elim, _≢_}
 use mathlib.Core.List.{List, [], _∷_, _++_}

@@ -1,0 +1,4 @@
+pub mod Bytewise
+mod PlainReads
+mod Tables
+pub mod OnInputs

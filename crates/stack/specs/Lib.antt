@@ -1,0 +1,3 @@
+pub mod Refusals
+pub mod Stacks
+pub mod Runs
