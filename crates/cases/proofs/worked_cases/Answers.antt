@@ -1,5 +1,5 @@
-use mathlib.Core.Path.{refl}
+use Rattle.cases.proofs.Standing.{cases-stand}
 use Rattle.cases.proofs.worked_cases.Needs as need
 
 pub returns : need.returns
-returns c = refl
+returns c = cases-stand
