@@ -1,0 +1,4 @@
+pub mod Laws
+pub mod Turns
+pub mod Sofar
+pub mod Stand
