@@ -46,7 +46,7 @@ behind text n None = None
 behind-line : (text l : List ℕ) (n : ℕ) (o : Option Found) → behind (text ++ (l ++ 0x0A ∷ [])) (n + 1) o ≡ behind text n (with-line l o)
 behind-line text l n (Some f) =
     let t : (text ++ (l ++ 0x0A ∷ [])) ++ f .text ≡ text ++ (l ++ 0x0A ∷ f .text) =
-        append-assoc text (l ++ 0x0A ∷ []) (f .text) ∙ ap (λ z. text ++ z) (append-assoc l (0x0A ∷ []) (f .text)) in
+    append-assoc text (l ++ 0x0A ∷ []) (f .text) ∙ ap (λ z. text ++ z) (append-assoc l (0x0A ∷ []) (f .text)) in
     let k : n + 1 + f .lines ≡ n + suc (f .lines) = omega arith in
     ap (λ z. Some (record { text = z; lines = n + 1 + f .lines; rest = f .rest })) t
     ∙ ap (λ z. Some (record { text = text ++ (l ++ 0x0A ∷ f .text); lines = z; rest = f .rest })) k
@@ -74,9 +74,9 @@ begins script =
       still = ap (λ z. behind z 0 (block-of (lines-of script))) none ∙ behind-none (block-of (lines-of script));
     }
   where
-  behind-none : (o : Option Found) → behind [] 0 o ≡ o
-  behind-none (Some f) = ap (λ z. Some (record { text = f .text; lines = z; rest = f .rest })) (omega arith)
-  behind-none None = refl
+    behind-none : (o : Option Found) → behind [] 0 o ≡ o
+    behind-none (Some f) = ap (λ z. Some (record { text = f .text; lines = z; rest = f .rest })) (omega arith)
+    behind-none None = refl
 
 module _ (script left : List ℕ) (n : ℕ) (h : 0 < length left) (going : Going script left n) where
   abbrev line : List ℕ
@@ -94,23 +94,23 @@ module _ (script left : List ℕ) (n : ℕ) (h : 0 < length left) (going : Going
   goes-on-by [] e off =
       let all : before script [] ≡ script = before-is script script [] (append-nil script) in
       let none : behind (before script left) n (block-of (lines-of left)) ≡ None =
-          ap (behind (before script left) n) (next-block off ∙ ap (λ z. with-line line (block-of (lines-of z))) e) in
+      ap (behind (before script left) n) (next-block off ∙ ap (λ z. with-line line (block-of (lines-of z))) e) in
       record { parts = ap (λ z. z ++ []) all ∙ append-nil script; still = sym none ∙ going .still }
   goes-on-by (b ∷ rest) e off =
       let some : 0 < length next = omega (arith, ap length e) in
       let front : (before script left ++ (line ++ 0x0A ∷ [])) ++ (b ∷ rest) ≡ script =
-          ap (λ z. (before script left ++ (line ++ 0x0A ∷ [])) ++ z) (sym e)
-          ∙ append-assoc (before script left) (line ++ 0x0A ∷ []) next
-          ∙ ap (λ z. before script left ++ z) (append-assoc line (0x0A ∷ []) next ∙ sym (line-end left some))
-          ∙ going .parts in
+      ap (λ z. (before script left ++ (line ++ 0x0A ∷ [])) ++ z) (sym e)
+      ∙ append-assoc (before script left) (line ++ 0x0A ∷ []) next
+      ∙ ap (λ z. before script left ++ z) (append-assoc line (0x0A ∷ []) next ∙ sym (line-end left some))
+      ∙ going .parts in
       let is : before script (b ∷ rest) ≡ before script left ++ (line ++ 0x0A ∷ []) = before-is script _ (b ∷ rest) front in
       record {
         parts = ap (λ z. z ++ b ∷ rest) is ∙ front;
         still = ap (λ z. behind z (n + 1) (block-of (lines-of (b ∷ rest)))) is
-          ∙ behind-line (before script left) line n (block-of (lines-of (b ∷ rest)))
-          ∙ ap (λ z. behind (before script left) n (with-line line (block-of (lines-of z)))) (sym e)
-          ∙ ap (behind (before script left) n) (sym (next-block off))
-          ∙ going .still;
+            ∙ behind-line (before script left) line n (block-of (lines-of (b ∷ rest)))
+            ∙ ap (λ z. behind (before script left) n (with-line line (block-of (lines-of z)))) (sym e)
+            ∙ ap (behind (before script left) n) (sym (next-block off))
+            ∙ going .still;
       }
 
   pub goes-on : sameBytes line (codes "end") ≡ false → Going script next (n + 1)

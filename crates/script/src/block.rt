@@ -21,7 +21,11 @@ pub fn cut_block(script: &[u8]) -> Option<Block<'_>>
         let cut = cut_line(left);
         if is_word(cut.piece, b"end") {
             let text = &script[0..script.len() - left.len()];
-            return Some(Block { text, lines, rest: cut.rest });
+            return Some(Block {
+                text,
+                lines,
+                rest: cut.rest,
+            });
         }
         left = cut.rest;
         lines += 1;

@@ -173,11 +173,19 @@ fn with_rest(keyword: Keyword, rest: &[u8]) -> Option<Command<'_>>
         }
         Keyword::Show => read_show(rest),
         Keyword::Text => {
-            if is_end(rest) { Some(Command::Text) } else { None }
+            if is_end(rest) {
+                Some(Command::Text)
+            } else {
+                None
+            }
         }
         Keyword::TextHex => Some(Command::TextHex { hex: rest }),
         Keyword::Draft => {
-            if is_end(rest) { Some(Command::Draft) } else { None }
+            if is_end(rest) {
+                Some(Command::Draft)
+            } else {
+                None
+            }
         }
     }
 }

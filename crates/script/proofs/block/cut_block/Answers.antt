@@ -30,9 +30,10 @@ loop-left-again c =
     let left = c .loop-left .left .now in
     let some : 0 < length left = grind (arith, tells) in
     let off : sameBytes (until 0x0A left) (codes "end") ≡ false = ap (λ z. sameBytes z (codes "end")) (sym (c .cut-line-cut .ensures .piece)) ∙ sym (c .if-is-word .ensures tt) in
-    let on = goes-on (c .args .script .now) left (c .loop-left .lines) some (c .loop-left .inv .0) off in
-    (subst (λ z. Going (c .args .script .now) z (c .loop-left .lines + 1)) (sym (c .cut-line-cut .ensures .rest)) on,
-      omega (arith, c .cut-line-cut .ensures .shorter some, c .loop-left .inv .1))
+    let on = goes-on (c .args .script .now) left (c .loop-left .lines) some (c .loop-left .inv .0) off in (
+      subst (λ z. Going (c .args .script .now) z (c .loop-left .lines + 1)) (sym (c .cut-line-cut .ensures .rest)) on,
+      omega (arith, c .cut-line-cut .ensures .shorter some, c .loop-left .inv .1),
+    )
 
 pub returns : need.returns
 returns c =
