@@ -1,3 +1,4 @@
 mod Cutting
 mod Counting
 mod Pairs
+mod Blocks

@@ -26,6 +26,10 @@ pub data Asked : Type 0 where
   patch : (place : ℕ) → (hex : List ℕ) → Asked
   undo : Asked
   show : (left right : ℕ) → Asked
+  -- a grammar text: in the lines that follow, or byte by byte; and a new draft for it
+  text : Asked
+  text-hex : (hex : List ℕ) → Asked
+  draft : Asked
 
 -- what a command of the program asks for
 abbrev pub asked : Command → Asked
@@ -38,6 +42,9 @@ asked (command.Window l r) = window l r
 asked (command.Patch p h) = patch p (h .now)
 asked command.Undo = undo
 asked (command.Show l r) = show l r
+asked command.Text = text
+asked (command.TextHex h) = text-hex (h .now)
+asked command.Draft = draft
 
 abbrev pub asks : Option Command → Option Asked
 asks (Some c) = Some (asked c)
@@ -55,7 +62,10 @@ keyword-of w =
     (cond (sameBytes w (codes "window")) (Some keyword.Window)
     (cond (sameBytes w (codes "patch")) (Some keyword.Patch)
     (cond (sameBytes w (codes "undo")) (Some keyword.Undo)
-    (cond (sameBytes w (codes "show")) (Some keyword.Show) None)))))))
+    (cond (sameBytes w (codes "show")) (Some keyword.Show)
+    (cond (sameBytes w (codes "text")) (Some keyword.Text)
+    (cond (sameBytes w (codes "text-hex")) (Some keyword.TextHex)
+    (cond (sameBytes w (codes "draft")) (Some keyword.Draft) None))))))))))
 
 -- whether no word is left
 abbrev pub none-left : List ℕ → Bool
@@ -91,6 +101,9 @@ given keyword.Window rest = with-ends window (two-numbers rest)
 given keyword.Patch rest = with-place (after-word rest) (number-of (word rest))
 given keyword.Undo rest = cond (none-left rest) (Some undo) None
 given keyword.Show rest = with-ends show (two-numbers rest)
+given keyword.Text rest = cond (none-left rest) (Some text) None
+given keyword.TextHex rest = Some (text-hex rest)
+given keyword.Draft rest = cond (none-left rest) (Some draft) None
 
 abbrev pub given-any : Option Keyword → List ℕ → Option Asked
 given-any (Some k) rest = given k rest

@@ -1,10 +1,10 @@
 ghost use mathlib.Core.Path.{_≡_};
 ghost use mathlib.Core.List.{List};
 ghost use Prim.Native.Nat.{ℕ};
-ghost use Rattle.std.specs.shelf.Text.{sameBytes};
 ghost use Rattle.script.specs.Commands.{none-left, two-numbers, keyword-of, asks, given, comment, command-of};
 use crate::number::number;
 use crate::piece::cut_word;
+use crate::piece::is_word;
 
 /// What a line of a script asks for. Hexadecimal bytes and a path are parts of the line.
 #[derive(Clone, Copy)]
@@ -19,6 +19,10 @@ pub enum Command<'a> {
     Patch { place: usize, hex: &'a [u8] },
     Undo,
     Show { left: usize, right: usize },
+    /// The lines that follow, up to `end`, are a grammar text.
+    Text,
+    TextHex { hex: &'a [u8] },
+    Draft,
 }
 
 /// The first word of a command.
@@ -32,12 +36,9 @@ pub enum Keyword {
     Patch,
     Undo,
     Show,
-}
-
-fn is_word(word: &[u8], name: &[u8]) -> bool
-    ensures { λ r. ⌜ r ≡ sameBytes (now (word .entry)) (now (name .entry)) ⌝ }
-{
-    word == name
+    Text,
+    TextHex,
+    Draft,
 }
 
 fn keyword_of(word: &[u8]) -> Option<Keyword>
@@ -66,6 +67,15 @@ fn keyword_of(word: &[u8]) -> Option<Keyword>
     }
     if is_word(word, b"show") {
         return Some(Keyword::Show);
+    }
+    if is_word(word, b"text") {
+        return Some(Keyword::Text);
+    }
+    if is_word(word, b"text-hex") {
+        return Some(Keyword::TextHex);
+    }
+    if is_word(word, b"draft") {
+        return Some(Keyword::Draft);
     }
     None
 }
@@ -162,6 +172,21 @@ fn with_rest(keyword: Keyword, rest: &[u8]) -> Option<Command<'_>>
             }
         }
         Keyword::Show => read_show(rest),
+        Keyword::Text => {
+            if is_end(rest) {
+                Some(Command::Text)
+            } else {
+                None
+            }
+        }
+        Keyword::TextHex => Some(Command::TextHex { hex: rest }),
+        Keyword::Draft => {
+            if is_end(rest) {
+                Some(Command::Draft)
+            } else {
+                None
+            }
+        }
     }
 }
 

@@ -1,6 +1,7 @@
 ghost use mathlib.Core.Path.{_≡_};
 ghost use Prim.Native.Nat.{_<_};
 ghost use lib.ListN.{length};
+ghost use Rattle.std.specs.shelf.Text.{sameBytes};
 ghost use Rattle.script.specs.Pieces.{until, after, trimmed, word, after-word};
 
 const SPACE: u8 = 0x20;
@@ -58,4 +59,11 @@ pub fn cut_word(line: &[u8]) -> Cut<'_>
     ensures rest { λ r. ⌜ now (r .rest) ≡ after-word (now (line .entry)) ⌝ }
 {
     cut_at(trim(line), SPACE)
+}
+
+/// Whether a word is this one.
+pub fn is_word(word: &[u8], name: &[u8]) -> bool
+    ensures { λ r. ⌜ r ≡ sameBytes (now (word .entry)) (now (name .entry)) ⌝ }
+{
+    word == name
 }

@@ -141,6 +141,8 @@ impl Session {
             },
             Command::Undo => self.undo(out)?,
             Command::Show { left, right } => show(&*self.chosen(), left, right, out)?,
+            // grammar texts are not read here yet
+            Command::Text | Command::TextHex { hex: _ } | Command::Draft => return Ok(false),
         }
         Ok(true)
     }
