@@ -1,0 +1,3 @@
+pub mod Pushing
+mod Numbers
+mod Worth
