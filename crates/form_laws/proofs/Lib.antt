@@ -1,0 +1,5 @@
+mod Right
+mod Tokens
+mod Expressions
+mod Terms
+mod Texts
