@@ -4,8 +4,8 @@ ghost use Rattle.std.specs.Vec.{made};
 use std::alloc::AllocError;
 use std::alloc::Global;
 
-// The value of a hexadecimal digit, in either case.
-fn hex_digit(b: u8) -> Option<u8>
+/// The value of a hexadecimal digit, in either case.
+pub fn hex_digit(b: u8) -> Option<u8>
     ensures { λ r. ⌜ r ≡ digit-of b ⌝ }
 {
     match b {

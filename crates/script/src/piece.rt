@@ -61,8 +61,8 @@ pub fn cut_word(line: &[u8]) -> Cut<'_>
     cut_at(trim(line), SPACE)
 }
 
-// Whether a word is this one.
-pub(crate) fn is_word(word: &[u8], name: &[u8]) -> bool
+/// Whether a word is this one.
+pub fn is_word(word: &[u8], name: &[u8]) -> bool
     ensures { λ r. ⌜ r ≡ sameBytes (now (word .entry)) (now (name .entry)) ⌝ }
 {
     word == name
