@@ -3,6 +3,7 @@
 //     let mut slots = [0u64; 8];
 //     let mut numbers = Stack::new(&mut slots);
 //     numbers.push(7)?;
+#![tactic(auto)]
 ghost use Rattle.std.specs.Prelude.{◌≤◌, length};
 
 mod calls;

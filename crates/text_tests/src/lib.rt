@@ -1,4 +1,5 @@
 // Texts at the boundaries of tokens, form and limits, and what becomes of them.
+#![tactic(auto)]
 use draft::{Draft, Refused};
 
 // The number and the place of an answer; 0 and 0 for a text that was taken.

@@ -1,4 +1,5 @@
 // Runs a script of exercises from standard input, and prints what each command answered.
+#![tactic(auto)]
 mod session;
 mod show;
 
