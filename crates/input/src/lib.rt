@@ -1,5 +1,6 @@
 // Inputs: lists of bytes that can be asked for their length and their bytes, and the layers over them.
 #![tactic(auto)]
+
 ghost use Rattle.std.specs.Prelude.{◌≡◌, length};
 ghost use Rattle.input.specs.Bytes.{Shown, byte_at};
 

@@ -7,8 +7,8 @@ use Rattle.input.specs.declared.refusal.Refusal.TheVariants.{PatchesFull}
 use Rattle.input.proofs.Tables.{errata_length, errata_more}
 use Rattle.input.proofs.bench.Bench.patch.Goals as goal
 
-pub returns-then-self-eq-MOST-PATCHES : goal.returns-then-self-eq-MOST-PATCHES
-returns-then-self-eq-MOST-PATCHES g c =
+pub returns-then-self-eq-MOST_PATCHES : goal.returns-then-self-eq-MOST_PATCHES
+returns-then-self-eq-MOST_PATCHES g c =
     let b = c.args.self.now in
     let n = errata_length b.table b.count (omega (arith, b.few, b.whole)) in
     let told : Err PatchesFull ≡ patch_answer (length (g.I.Input.shown b.below).bytes) (errata b) c.args.place c.args.bytes.now = grind (arith, nat_tests) in

@@ -5,5 +5,5 @@ use Rattle.input.proofs.patch.Patch.write.Goals as goal
 
 pub returns : goal.returns
 returns c =
-    let e = take_at c.copy-from-slice.new.self _ (length c.args.bytes.now) (ap length c.copy-from-slice.ensures.after) ∙ c.copy-from-slice.ensures.after in
+    let e = take_at c.copy_from_slice.new.self _ (length c.args.bytes.now) (ap length c.copy_from_slice.ensures.after) ∙ c.copy_from_slice.ensures.after in
     ap {B = Erratum} (λ bs. record { place = c.args.place; bytes = bs }) e

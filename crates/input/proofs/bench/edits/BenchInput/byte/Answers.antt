@@ -6,16 +6,16 @@ use Rattle.input.specs.Benches.{errata}
 use Rattle.input.proofs.Tables.{errata_next}
 use Rattle.input.proofs.Writes.{shows_at}
 use Rattle.input.proofs.bench.edits.BenchInput.byte.Goals as goal
-use Rattle.input.proofs.bench.edits.BenchInput.byte.Goals.{in-Some, in-default}
+use Rattle.input.proofs.bench.edits.BenchInput.byte.Goals.{in-Some, in_default}
 
-pub returns-in-err-shown : goal.returns-in-err-shown
-returns-in-err-shown g c =
+pub returns-in_err-shown : goal.returns-in_err-shown
+returns-in_err-shown g c =
     let n = length_shows (g.I.Input.shown c.args.self.now.below).bytes (errata c.args.self.now) in
-    let w = c.in-err-shown.ensures in
+    let w = c.in_err-shown.ensures in
     grind (arith, nat_tests)
 
 pub loop-patch-init : goal.loop-patch-init
-loop-patch-init g c = let w = c.in-ok-shown.ensures in (grind (arith, nat_tests), grind (arith, nat_tests))
+loop-patch-init g c = let w = c.in_ok-shown.ensures in (grind (arith, nat_tests), grind (arith, nat_tests))
 
 pub loop-patch-preserved : goal.loop-patch-preserved
 loop-patch-preserved g c =
@@ -27,7 +27,7 @@ loop-patch-preserved g c =
     let h : i < length ps = omega arith in
     let at : get_or (shows xs (map erratum_of (take (i + 1) ps))) k 0 ≡ or_default c.at.result c.loop-patch.shown =
     ap (λ es. get_or (shows xs es) k 0) (errata_next ps i c.patch-item.result h c.patch-item.is) ∙ shows_at xs (map erratum_of (take i ps)) e k c.loop-patch.invariant.0 ∙ (cc) in
-    (c.loop-patch.invariant.0, elim c.match-at.branch [ in-Some w ↦ w.shown-is ∙ sym (at ∙ ap (λ o. or_default o c.loop-patch.shown) w.in-Some.is) | in-default w ↦ w.shown-is ∙ sym (at ∙ ap (λ o. or_default o c.loop-patch.shown) w.in-default.is) ])
+    (c.loop-patch.invariant.0, elim c.match-at.branch [ in-Some w ↦ w.shown-is ∙ sym (at ∙ ap (λ o. or_default o c.loop-patch.shown) w.in-Some.is) | in_default w ↦ w.shown-is ∙ sym (at ∙ ap (λ o. or_default o c.loop-patch.shown) w.in_default.is) ])
 
 pub returns : goal.returns
 returns g c =
