@@ -1,10 +1,10 @@
 -- The built-in readers in plain words, from their definitions.
-use Rattle.std.proofs.Common.{◌≡◌, ℕ, suc, ◌+◌, ◌*◌, ◌<◌, ◌≤◌, eqb, leb, List, [], ◌∷◌, length, take, is_some, Some, None, refl, ap, ◌∙◌, arith}
+use Rattle.std.proofs.Common.{◌≡◌, ℕ, ◌+◌, ◌*◌, ◌<◌, ◌≤◌, List, ◌∷◌, length, take, is_some, None, refl, ap, arith}
 use Rattle.std.proofs.lemmas.Bool.Decides.{nat_tests}
 use Rattle.fields.specs.Names.{reader_table, name_in}
 use Rattle.fields.specs.Numbers.{builtin_fields}
 use Rattle.fields.specs.Plain.{BuiltinReads}
-use Rattle.fields.specs.Readings.{reading, little_endian, little_reading, raw_reading}
+use Rattle.fields.specs.Readings.{reading, little_endian, little_reading}
 
 -- a window that is long enough
 long : (k : ℕ) (w : List ℕ) (v : ℕ) → k ≤ length w → little_endian (take k w) ≡ v → little_reading k w ≡ reading v k

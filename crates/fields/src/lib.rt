@@ -3,6 +3,7 @@
 //     let reader = Joined { left: Builtin, right: mine };
 //     let size = reader.read(33, &input, 0, 2)?;
 #![tactic(auto)]
+
 pub mod builtin;
 pub mod joined;
 pub mod laws;

@@ -1,4 +1,4 @@
-use Rattle.std.proofs.Common.{◌≡◌, length, ap, arith}
+use Rattle.std.proofs.Common.{ap, arith}
 use Rattle.std.proofs.lemmas.Bool.Decides.{nat_tests}
 use Rattle.input.proofs.Windows.{window_length}
 use Rattle.fields.specs.Readings.{little_endian}
@@ -21,5 +21,5 @@ returns g c =
     let bs = (g.I.Input.shown c.args.input.now).bytes in
     let n = window_length bs c.args.left c.args.right (omega arith) (omega arith) in
     let f = ap little_endian (window_front bs c.args.left c.args.right c.args.width (omega arith) (omega arith) (omega arith)) in
-    let e = c.in-ok-value.ensures in
+    let e = c.in_ok-value.ensures in
     grind (arith, nat_tests)
