@@ -9,30 +9,30 @@ use Rattle.evaluate.proofs.Pushing.{pushed_held, pushed_room}
 use Rattle.evaluate.proofs.Worth.{worth, worth_more, worth_none, worth_end, comes_to}
 use Rattle.evaluate.proofs.evaluate.Goals as goal
 
-pub returns-in-default : goal.returns-in-default
-returns-in-default c = λ u.
+pub returns-in_default : goal.returns-in_default
+returns-in_default c = λ u.
     let so : Progress = record { slots = c.args.slots.now; below = c.args.below.now; used = u } in
-    let cs = c.code-of-codes.result.now in
+    let cs = c.code_of-codes.result.now in
     let vs = held c.loop-code.stack in
-    worth_none c.args.c so cs c.loop-code.code-index _ vs c.loop-code-test.true (c.in-default.ensures.answer u)
+    worth_none c.args.c so cs c.loop-code.code-index _ vs c.loop-code-test.true (c.in_default.ensures.answer u)
     ∙ c.loop-code.invariant.3 u
     ∙ comes_to c.args.c so cs
-    ∙ ap (λ z. value c.args.c so (expr_of z)) c.code-of-codes.ensures
+    ∙ ap (λ z. value c.args.c so (expr_of z)) c.code_of-codes.ensures
 
 pub loop-code-preserved : goal.loop-code-preserved
 loop-code-preserved c =
-    let cs = c.code-of-codes.result.now in
+    let cs = c.code_of-codes.result.now in
     let i = c.loop-code.code-index in
     let vs = held c.loop-code.stack in
     let inv = c.loop-code.invariant in
-    let n = c.next-number.ensures in
+    let n = c.next_number.ensures in
     let p = c.push.ensures in
-    let xs = held c.next-number.new.stack in
-    let rs = room c.next-number.new.stack in
+    let xs = held c.next_number.new.stack in
+    let rs = room c.next_number.new.stack in
     let g = c.args.grammar.now in
     let room-is : length rs ≡ 1024 = ap length n.room ∙ inv.1 ∙ ap length c.new-stack.ensures.room ∙ length-take-le 1024 c.args.numbers.now (omega (arith, c.told-numbers)) in
     let few : length xs ≤ i = let l = left_few _ vs xs n.held in omega (arith, inv.2) in
-    let here : i < 1024 = omega (arith, c.loop-code-test.true, ap length c.code-of-codes.ensures, part_short (vec_items g.code) c.args.span, g.code.ok.0, g.short_code) in
+    let here : i < 1024 = omega (arith, c.loop-code-test.true, ap length c.code_of-codes.ensures, part_short (vec_items g.code) c.args.span, g.code.ok.0, g.short_code) in
     let fits : length xs < length rs = omega arith in
     let after = p.held ∙ pushed_held rs xs c.in-Some.v fits in (
       p.lender ∙ n.lender ∙ inv.0,
@@ -45,10 +45,10 @@ loop-code-preserved c =
 pub returns : goal.returns
 returns c = λ u.
     let so : Progress = record { slots = c.args.slots.now; below = c.args.below.now; used = u } in
-    let cs = c.code-of-codes.result.now in
+    let cs = c.code_of-codes.result.now in
     let vs = held c.loop-code.stack in
-    c.last-number.ensures.answer
+    c.last_number.ensures.answer
     ∙ worth_end c.args.c so cs c.loop-code.code-index vs c.loop-code-test.false
     ∙ c.loop-code.invariant.3 u
     ∙ comes_to c.args.c so cs
-    ∙ ap (λ z. value c.args.c so (expr_of z)) c.code-of-codes.ensures
+    ∙ ap (λ z. value c.args.c so (expr_of z)) c.code_of-codes.ensures

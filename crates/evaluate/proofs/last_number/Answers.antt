@@ -3,10 +3,10 @@ use Rattle.stack.specs.Stacks.{held}
 use Rattle.evaluate.proofs.Numbers.{un_popped, fin_none, fin_one, fin_more}
 use Rattle.evaluate.proofs.last_number.Goals as goal
 
-pub returns-in-default : goal.returns-in-default
-returns-in-default c =
+pub returns-in_default : goal.returns-in_default
+returns-in_default c =
     let xs = held c.args.stack.now in
-    let e = un_popped xs c.pop.result c.pop.ensures.answer c.in-default.not-Ok in
+    let e = un_popped xs c.pop.result c.pop.ensures.answer c.in_default.not-Ok in
     record { answer = fin_none xs e; lender = c.pop.ensures.lender }
 
 pub returns-then-depth-eq0 : goal.returns-then-depth-eq0

@@ -15,5 +15,5 @@ returns-in-Bracket c =
     let p = c.latest.ensures in
     record { answer = λ u. simp c.in-Bracket.is p.answer; held = simp c.in-Bracket.is p.held; room = p.room; lender = p.lender }
 
-pub returns-in-default : goal.returns-in-default
-returns-in-default c = record { answer = λ u. c.part-value.ensures u ∙ taken_part _ _ c.args.code _ c.in-default.not-Apply c.in-default.not-Bracket; held = left_part c.args.code _ c.in-default.not-Apply c.in-default.not-Bracket; room = refl; lender = refl }
+pub returns-in_default : goal.returns-in_default
+returns-in_default c = record { answer = λ u. c.part_value.ensures u ∙ taken_part _ _ c.args.code _ c.in_default.not-Apply c.in_default.not-Bracket; held = left_part c.args.code _ c.in_default.not-Apply c.in_default.not-Bracket; room = refl; lender = refl }

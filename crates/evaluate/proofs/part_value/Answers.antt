@@ -8,7 +8,7 @@ returns-in-Number c = λ u. simp c.in-Number.is
 
 pub returns-in-Eoi : goal.returns-in-Eoi
 unfolding value
-returns-in-Eoi c = λ u. simp c.in-Eoi.is (ap Some c.saturating-sub.ensures)
+returns-in-Eoi c = λ u. simp c.in-Eoi.is (ap Some c.saturating_sub.ensures)
 
 pub returns-in-Own : goal.returns-in-Own
 unfolding value
@@ -22,26 +22,26 @@ pub returns-in-Bracket : goal.returns-in-Bracket
 unfolding value if_some applied
 returns-in-Bracket c = λ u. simp c.in-Bracket.is
 
-pub returns-in-default : goal.returns-in-default
+pub returns-in_default : goal.returns-in_default
 unfolding value if_some
-returns-in-default c = λ u. simp (c.in-OfCall.is, sym c.in-default.ensures)
+returns-in_default c = λ u. simp (c.in-OfCall.is, sym c.in_default.ensures)
 
-pub returns-in-default-find-call : goal.returns-in-default-find-call
+pub returns-in_default-find_call : goal.returns-in_default-find_call
 unfolding value if_some
-returns-in-default-find-call c = λ u. simp (c.in-StartOf.is, sym c.in-default-find-call.ensures)
+returns-in_default-find_call c = λ u. simp (c.in-StartOf.is, sym c.in_default-find_call.ensures)
 
-pub returns-in-default-find-call-2 : goal.returns-in-default-find-call-2
+pub returns-in_default-find_call-2 : goal.returns-in_default-find_call-2
 unfolding value if_some
-returns-in-default-find-call-2 c = λ u. simp (c.in-EndOf.is, sym c.in-default-find-call-2.ensures)
+returns-in_default-find_call-2 c = λ u. simp (c.in-EndOf.is, sym c.in_default-find_call-2.ensures)
 
 pub returns-in-Some : goal.returns-in-Some
 unfolding value if_some
 returns-in-Some c = λ u. simp (c.in-OfCall.is, sym c.in-Some.ensures) c.slot-in-OfCall.ensures
 
-pub returns-in-Some-find-call : goal.returns-in-Some-find-call
+pub returns-in-Some-find_call : goal.returns-in-Some-find_call
 unfolding value if_some
-returns-in-Some-find-call c = λ u. simp (c.in-StartOf.is, sym c.in-Some-find-call.ensures) (ap Some c.saturating-sub-in-StartOf.ensures)
+returns-in-Some-find_call c = λ u. simp (c.in-StartOf.is, sym c.in-Some-find_call.ensures) (ap Some c.saturating_sub-in-StartOf.ensures)
 
-pub returns-in-Some-find-call-2 : goal.returns-in-Some-find-call-2
+pub returns-in-Some-find_call-2 : goal.returns-in-Some-find_call-2
 unfolding value if_some
-returns-in-Some-find-call-2 c = λ u. simp (c.in-EndOf.is, sym c.in-Some-find-call-2.ensures) (ap Some c.saturating-sub-in-EndOf.ensures)
+returns-in-Some-find_call-2 c = λ u. simp (c.in-EndOf.is, sym c.in-Some-find_call-2.ensures) (ap Some c.saturating_sub-in-EndOf.ensures)
