@@ -5,10 +5,10 @@ use Rattle.meaning.specs.Windows.{bytes_in}
 use Rattle.terms.proofs.Same.{same_more, same_not, same_end, byte_is, byte_there}
 use Rattle.terms.proofs.same_at.Goals as goal
 
-pub returns-in-default : goal.returns-in-default
-returns-in-default g c =
+pub returns-in_default : goal.returns-in_default
+returns-in_default g c =
     let bs = (g.I.Input.shown c.args.input.now).bytes in
-    absurd (byte_there bs (c.args.w.left + c.loop-i.i) (omega arith) c.in-default.ensures)
+    absurd (byte_there bs (c.args.w.left + c.loop-i.i) (omega arith) c.in_default.ensures)
 
 pub returns-then-x-bytes : goal.returns-then-x-bytes
 unfolding bytes_in

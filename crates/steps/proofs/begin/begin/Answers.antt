@@ -23,4 +23,4 @@ pub returns-else-c-lt32 : goal.returns-else-c-lt32
 unfolding Sound
 returns-else-c-lt32 g c = λ grammar rs count few deep sound.
     begins_reader _ grammar c.args.limits _ rs c.args.nodes.now count c.args.state c.args.c c.if-state-limits.false (omega arith) c.if-c-limits.false c.requires.nodes.0 sound _ _ _ _ c.if-c-lt32.false
-    (c.read-field.ensures grammar c.args.limits.frames rs (omega arith) sound.4)
+    (c.read_field.ensures grammar c.args.limits.frames rs (omega arith) sound.4)

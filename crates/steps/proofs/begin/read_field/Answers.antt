@@ -3,8 +3,8 @@ use Rattle.meaning.specs.Meaning.{leaf, tree}
 use Rattle.frames.proofs.Reading.{uses_within, accepted, refused, reader_gave, reader_refused}
 use Rattle.steps.proofs.begin.read_field.Goals as goal
 
-pub overflow-add-used : goal.overflow-add-used
-overflow-add-used g c =
+pub overflow_add-used : goal.overflow_add-used
+overflow_add-used g c =
     let bs = g.I.Input.shown c.args.input.now in
     omega (arith, uses_within (g.R.FieldReader.meaning c.args.readers.now) c.args.c.number bs.bytes c.args.c.window c.requires.1.0 c.requires.1.1 c.in-Some.v c.in-Some.ensures, bs.short, c.requires.1.1)
 

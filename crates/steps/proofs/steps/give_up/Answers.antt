@@ -2,8 +2,8 @@ use Rattle.std.proofs.Common.{length, ap, arith}
 use Rattle.frames.proofs.Moving.{up, none_up, small_top}
 use Rattle.steps.proofs.steps.give_up.Goals as goal
 
-pub overflow-add-result : goal.overflow-add-result
-overflow-add-result c = omega (arith, small_top _ c.in-Ok.f c.in-Ok.ensures.answer c.requires)
+pub overflow_add-result : goal.overflow_add-result
+overflow_add-result c = omega (arith, small_top _ c.in-Ok.f c.in-Ok.ensures.answer c.requires)
 
 pub returns-in-Ok : goal.returns-in-Ok
 returns-in-Ok c =
