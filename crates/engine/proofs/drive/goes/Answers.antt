@@ -14,5 +14,5 @@ pub returns-in-Stopped : goal.returns-in-Stopped
 unfolding goes_on
 returns-in-Stopped c = simp c.in-Stopped.is
 
-pub returns-in-default : goal.returns-in-default
-returns-in-default c = rest_goes _ c.in-default.not-Matched c.in-default.not-Failed c.in-default.not-Stopped
+pub returns-in_default : goal.returns-in_default
+returns-in_default c = rest_goes _ c.in_default.not-Matched c.in_default.not-Failed c.in_default.not-Stopped

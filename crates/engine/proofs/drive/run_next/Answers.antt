@@ -11,35 +11,35 @@ pub finish-requires : goal.finish-requires
 unfolding Sound
 finish-requires g c = let s = c.requires.sound in omega (arith, s.0, s.1)
 
-pub returns-in-default : goal.returns-in-default
+pub returns-in_default : goal.returns-in_default
 unfolding shown_by
-returns-in-default g c =
-    record { moves = λ read. c.finish.ensures _ (held c.args.stack.now) (none_next (grammar_of c.args.grammar.now) c.args.f c.in-default.ensures) read c.args.limits _ c.requires.sound; room = refl; lender = refl }
+returns-in_default g c =
+    record { moves = λ read. c.finish.ensures _ (held c.args.stack.now) (none_next (grammar_of c.args.grammar.now) c.args.f c.in_default.ensures) read c.args.limits _ c.requires.sound; room = refl; lender = refl }
 
-pub run-literal-requires : goal.run-literal-requires
+pub run_literal-requires : goal.run_literal-requires
 unfolding Sound shown_by
-run-literal-requires g c =
+run_literal-requires g c =
     let s = c.requires.sound in
     let small = next_small (grammar_of c.args.grammar.now) _ c.args.limits.frames (held c.args.stack.now) c.args.nodes.now c.args.count c.args.f _ s (next_is (grammar_of c.args.grammar.now) c.args.f (term_in c.args.grammar.now c.in-Some.t) c.in-Some.ensures) in
     record { table = (s.0, s.1); frame = (s.4.3, (small, s.4.2)); window = s.3 }
 
-pub run-call-requires : goal.run-call-requires
+pub run_call-requires : goal.run_call-requires
 unfolding Sound shown_by
-run-call-requires g c =
+run_call-requires g c =
     let s = c.requires.sound in
     let small = next_small (grammar_of c.args.grammar.now) _ c.args.limits.frames (held c.args.stack.now) c.args.nodes.now c.args.count c.args.f _ s (next_is (grammar_of c.args.grammar.now) c.args.f (term_in c.args.grammar.now c.in-Some.t) c.in-Some.ensures) in
     record { table = (s.0, s.1); frame = (s.4.3, (small, s.4.2)); stack = omega (arith, s.2, c.requires.stack) }
 
-pub run-attribute-requires : goal.run-attribute-requires
+pub run_attribute-requires : goal.run_attribute-requires
 unfolding Sound shown_by
-run-attribute-requires g c =
+run_attribute-requires g c =
     let s = c.requires.sound in
     let small = next_small (grammar_of c.args.grammar.now) _ c.args.limits.frames (held c.args.stack.now) c.args.nodes.now c.args.count c.args.f _ s (next_is (grammar_of c.args.grammar.now) c.args.f (term_in c.args.grammar.now c.in-Some.t) c.in-Some.ensures) in
     record { table = (s.0, s.1); frame = (s.4.3, (small, s.4.2)) }
 
-pub run-guard-requires : goal.run-guard-requires
+pub run_guard-requires : goal.run_guard-requires
 unfolding Sound shown_by
-run-guard-requires g c =
+run_guard-requires g c =
     let s = c.requires.sound in
     let small = next_small (grammar_of c.args.grammar.now) _ c.args.limits.frames (held c.args.stack.now) c.args.nodes.now c.args.count c.args.f _ s (next_is (grammar_of c.args.grammar.now) c.args.f (term_in c.args.grammar.now c.in-Some.t) c.in-Some.ensures) in
     record { table = (s.0, s.1); frame = (s.4.3, (small, s.4.2)) }
@@ -50,9 +50,9 @@ returns-in-Literal g c =
     let gm = c.args.grammar.now in
     let gr = grammar_of gm in
     let nx = next_is gr c.args.f (term_in gm c.in-Some.t) c.in-Some.ensures in
-    let e = ap (term_in gm) c.in-Literal.is ∙ ap (λ l. literal l (expr_in gm c.in-Literal.ends.left) (expr_in gm c.in-Literal.ends.right)) (sym c.bytes-of.ensures) in
+    let e = ap (term_in gm) c.in-Literal.is ∙ ap (λ l. literal l (expr_in gm c.in-Literal.ends.left) (expr_in gm c.in-Literal.ends.right)) (sym c.bytes_of.ensures) in
     record {
-      moves = λ read. c.run-literal.ensures read (held c.args.stack.now) gr c.args.limits (next_as gr c.args.f _ _ e nx) c.requires.sound;
+      moves = λ read. c.run_literal.ensures read (held c.args.stack.now) gr c.args.limits (next_as gr c.args.f _ _ e nx) c.requires.sound;
       room = refl;
       lender = refl;
     }
@@ -64,9 +64,9 @@ returns-in-Call g c =
     let gr = grammar_of gm in
     let nx = next_is gr c.args.f (term_in gm c.in-Some.t) c.in-Some.ensures in
     record {
-      moves = λ read. c.run-call.ensures.moves read _ gr c.args.limits (next_as gr c.args.f _ _ (ap (term_in gm) c.in-Call.is) nx) c.requires.sound;
-      room = c.run-call.ensures.room;
-      lender = c.run-call.ensures.lender;
+      moves = λ read. c.run_call.ensures.moves read _ gr c.args.limits (next_as gr c.args.f _ _ (ap (term_in gm) c.in-Call.is) nx) c.requires.sound;
+      room = c.run_call.ensures.room;
+      lender = c.run_call.ensures.lender;
     }
 
 pub returns-in-Attribute : goal.returns-in-Attribute
@@ -76,7 +76,7 @@ returns-in-Attribute g c =
     let gr = grammar_of gm in
     let nx = next_is gr c.args.f (term_in gm c.in-Some.t) c.in-Some.ensures in
     record {
-      moves = λ read. c.run-attribute.ensures read _ (held c.args.stack.now) gr c.args.limits (next_as gr c.args.f _ _ (ap (term_in gm) c.in-Attribute.is) nx) c.requires.sound;
+      moves = λ read. c.run_attribute.ensures read _ (held c.args.stack.now) gr c.args.limits (next_as gr c.args.f _ _ (ap (term_in gm) c.in-Attribute.is) nx) c.requires.sound;
       room = refl;
       lender = refl;
     }
@@ -88,7 +88,7 @@ returns-in-Guard g c =
     let gr = grammar_of gm in
     let nx = next_is gr c.args.f (term_in gm c.in-Some.t) c.in-Some.ensures in
     record {
-      moves = λ read. c.run-guard.ensures read _ (held c.args.stack.now) gr c.args.limits (next_as gr c.args.f _ _ (ap (term_in gm) c.in-Guard.is) nx) c.requires.sound;
+      moves = λ read. c.run_guard.ensures read _ (held c.args.stack.now) gr c.args.limits (next_as gr c.args.f _ _ (ap (term_in gm) c.in-Guard.is) nx) c.requires.sound;
       room = refl;
       lender = refl;
     }

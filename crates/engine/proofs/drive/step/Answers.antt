@@ -21,8 +21,8 @@ begin-requires g c =
     let b = budget_at rd gr c.args.limits bs rs c.args.nodes.now m.count m.state m.mode (Begins c.in-Begins.c) c.in-Begins.is c.requires.budget.0 in
     record { budget = (b, c.requires.budget.1); nodes = (c.requires.tables.1, omega (arith, s.0, s.1)); window = s.3 }
 
-pub run-next-requires : goal.run-next-requires
-run-next-requires g c =
+pub run_next-requires : goal.run_next-requires
+run_next-requires g c =
     let m = c.args.m in
     let gr = grammar_of c.args.grammar.now in
     let rs = held c.args.stack.now in
@@ -31,9 +31,9 @@ run-next-requires g c =
     let s = sound_at rd gr c.args.limits bs rs c.args.nodes.now m.count m.state m.mode (Runs c.in-Runs.f) c.in-Runs.is c.requires.sound in
     record { sound = s; stack = c.requires.tables.0 }
 
-pub try-next-requires : goal.try-next-requires
+pub try_next-requires : goal.try_next-requires
 unfolding Sound
-try-next-requires g c =
+try_next-requires g c =
     let m = c.args.m in
     let gr = grammar_of c.args.grammar.now in
     let rs = held c.args.stack.now in
@@ -42,9 +42,9 @@ try-next-requires g c =
     let s = sound_at rd gr c.args.limits bs rs c.args.nodes.now m.count m.state m.mode (Tries c.in-Tries.c c.in-Tries.i c.in-Tries.k) c.in-Tries.is c.requires.sound in
     (s.0, s.3)
 
-pub give-back-requires : goal.give-back-requires
+pub give_back-requires : goal.give_back-requires
 unfolding Sound
-give-back-requires g c =
+give_back-requires g c =
     let m = c.args.m in
     let gr = grammar_of c.args.grammar.now in
     let rs = held c.args.stack.now in
@@ -53,8 +53,8 @@ give-back-requires g c =
     let s = sound_at rd gr c.args.limits bs rs c.args.nodes.now m.count m.state m.mode (Returns c.in-Returns.me) c.in-Returns.is c.requires.sound in
     omega (arith, s.0, s.1)
 
-pub give-up-requires : goal.give-up-requires
-give-up-requires g c =
+pub give_up-requires : goal.give_up-requires
+give_up-requires g c =
     let m = c.args.m in
     let gr = grammar_of c.args.grammar.now in
     let rs = held c.args.stack.now in
@@ -81,7 +81,7 @@ returns-in-Runs g c =
     let bs = (g.I.Input.shown c.args.input.now).bytes in
     let rd = read_of (g.R.FieldReader.meaning c.args.readers.now) in
     let s = sound_at rd gr c.args.limits bs rs c.args.nodes.now m.count m.state m.mode (Runs c.in-Runs.f) c.in-Runs.is c.requires.sound in
-    record { moves = moved rd gr c.args.limits bs rs c.args.nodes.now m.count m.state m.mode (Runs c.in-Runs.f) _ _ _ _ _ c.in-Runs.is (c.run-next.ensures.moves rd); room = c.run-next.ensures.room; lender = c.run-next.ensures.lender }
+    record { moves = moved rd gr c.args.limits bs rs c.args.nodes.now m.count m.state m.mode (Runs c.in-Runs.f) _ _ _ _ _ c.in-Runs.is (c.run_next.ensures.moves rd); room = c.run_next.ensures.room; lender = c.run_next.ensures.lender }
 
 pub returns-in-Tries : goal.returns-in-Tries
 returns-in-Tries g c =
@@ -91,7 +91,7 @@ returns-in-Tries g c =
     let bs = (g.I.Input.shown c.args.input.now).bytes in
     let rd = read_of (g.R.FieldReader.meaning c.args.readers.now) in
     let s = sound_at rd gr c.args.limits bs rs c.args.nodes.now m.count m.state m.mode (Tries c.in-Tries.c c.in-Tries.i c.in-Tries.k) c.in-Tries.is c.requires.sound in
-    record { moves = moved rd gr c.args.limits bs rs c.args.nodes.now m.count m.state m.mode (Tries c.in-Tries.c c.in-Tries.i c.in-Tries.k) _ _ _ _ _ c.in-Tries.is (c.try-next.ensures rs rd c.args.limits bs s); room = refl; lender = refl }
+    record { moves = moved rd gr c.args.limits bs rs c.args.nodes.now m.count m.state m.mode (Tries c.in-Tries.c c.in-Tries.i c.in-Tries.k) _ _ _ _ _ c.in-Tries.is (c.try_next.ensures rs rd c.args.limits bs s); room = refl; lender = refl }
 
 pub returns-in-Returns : goal.returns-in-Returns
 returns-in-Returns g c =
@@ -101,7 +101,7 @@ returns-in-Returns g c =
     let bs = (g.I.Input.shown c.args.input.now).bytes in
     let rd = read_of (g.R.FieldReader.meaning c.args.readers.now) in
     let s = sound_at rd gr c.args.limits bs rs c.args.nodes.now m.count m.state m.mode (Returns c.in-Returns.me) c.in-Returns.is c.requires.sound in
-    record { moves = moved rd gr c.args.limits bs rs c.args.nodes.now m.count m.state m.mode (Returns c.in-Returns.me) _ _ _ _ _ c.in-Returns.is (c.give-back.ensures.moves gr rd c.args.limits bs s); room = c.give-back.ensures.room; lender = c.give-back.ensures.lender }
+    record { moves = moved rd gr c.args.limits bs rs c.args.nodes.now m.count m.state m.mode (Returns c.in-Returns.me) _ _ _ _ _ c.in-Returns.is (c.give_back.ensures.moves gr rd c.args.limits bs s); room = c.give_back.ensures.room; lender = c.give_back.ensures.lender }
 
 pub returns-in-GivesUp : goal.returns-in-GivesUp
 returns-in-GivesUp g c =
@@ -111,10 +111,10 @@ returns-in-GivesUp g c =
     let bs = (g.I.Input.shown c.args.input.now).bytes in
     let rd = read_of (g.R.FieldReader.meaning c.args.readers.now) in
     let s = sound_at rd gr c.args.limits bs rs c.args.nodes.now m.count m.state m.mode (GivesUp c.in-GivesUp.me) c.in-GivesUp.is c.requires.sound in
-    record { moves = moved rd gr c.args.limits bs rs c.args.nodes.now m.count m.state m.mode (GivesUp c.in-GivesUp.me) _ _ _ _ _ c.in-GivesUp.is (c.give-up.ensures.moves gr rd c.args.limits bs s); room = c.give-up.ensures.room; lender = c.give-up.ensures.lender }
+    record { moves = moved rd gr c.args.limits bs rs c.args.nodes.now m.count m.state m.mode (GivesUp c.in-GivesUp.me) _ _ _ _ _ c.in-GivesUp.is (c.give_up.ensures.moves gr rd c.args.limits bs s); room = c.give_up.ensures.room; lender = c.give_up.ensures.lender }
 
-pub returns-in-default : goal.returns-in-default
-returns-in-default g c =
+pub returns-in_default : goal.returns-in_default
+returns-in_default g c =
     let m = c.args.m in
-    let e = rest_stops m.mode c.in-default.not-Begins c.in-default.not-Runs c.in-default.not-Tries c.in-default.not-Returns c.in-default.not-GivesUp in
+    let e = rest_stops m.mode c.in_default.not-Begins c.in_default.not-Runs c.in_default.not-Tries c.in_default.not-Returns c.in_default.not-GivesUp in
     record { moves = stays _ _ c.args.limits _ (held c.args.stack.now) c.args.nodes.now m.count m.state m.mode e c.requires.sound; room = refl; lender = refl }

@@ -5,26 +5,26 @@ use Rattle.engine.specs.Parses.{parse_after, allowed}
 use Rattle.engine.proofs.Parsing.{ordered_parts, allowed_budget}
 use Rattle.engine.proofs.parse.parse.Goals as goal
 
-pub returns-then-rule-rule-count : goal.returns-then-rule-rule-count
+pub returns-then-rule-rule_count : goal.returns-then-rule-rule_count
 unfolding parse_after
-returns-then-rule-rule-count g c = simp (c.refuse.ensures, le-ltb c.args.rule (length (grammar_of c.args.grammar.now)) (omega (arith, c.rule-count.ensures)))
+returns-then-rule-rule_count g c = simp (c.refuse.ensures, le-ltb c.args.rule (length (grammar_of c.args.grammar.now)) (omega (arith, c.rule_count.ensures)))
 
 pub returns-then-not-ordered : goal.returns-then-not-ordered
 unfolding parse_after
 returns-then-not-ordered g c =
     let n = length (g.I.Input.shown c.args.input.now).bytes in
     let e = ap (in_order c.args.left c.args.right) (sym c.len.ensures) ∙ sym c.ordered.ensures ∙ c.if-not-ordered.true in
-    simp (c.refuse-then-not-ordered.ensures, lt-ltb c.args.rule (length (grammar_of c.args.grammar.now)) (omega (arith, c.rule-count.ensures)), e)
+    simp (c.refuse-then-not-ordered.ensures, lt-ltb c.args.rule (length (grammar_of c.args.grammar.now)) (omega (arith, c.rule_count.ensures)), e)
 
 pub returns-then-not-permitted : goal.returns-then-not-permitted
 unfolding parse_after
 returns-then-not-permitted g c =
     let e = ap (in_order c.args.left c.args.right) (sym c.len.ensures) ∙ sym c.ordered.ensures ∙ c.if-not-ordered.false in
     let p = sym c.permitted.ensures ∙ c.if-not-permitted.true in
-    simp (c.refuse-then-not-permitted.ensures, lt-ltb c.args.rule (length (grammar_of c.args.grammar.now)) (omega (arith, c.rule-count.ensures)), e, p)
+    simp (c.refuse-then-not-permitted.ensures, lt-ltb c.args.rule (length (grammar_of c.args.grammar.now)) (omega (arith, c.rule_count.ensures)), e, p)
 
-pub parse-window-requires : goal.parse-window-requires
-parse-window-requires g c =
+pub parse_window-requires : goal.parse_window-requires
+parse_window-requires g c =
     let e = ap (in_order c.args.left c.args.right) (sym c.len.ensures) ∙ sym c.ordered.ensures ∙ c.if-not-ordered.false in
     let p = sym c.permitted.ensures ∙ c.if-not-permitted.false in
     record { window = ordered_parts _ _ _ e; budget = allowed_budget _ _ _ p }
@@ -34,4 +34,4 @@ unfolding parse_after
 returns g c =
     let e = ap (in_order c.args.left c.args.right) (sym c.len.ensures) ∙ sym c.ordered.ensures ∙ c.if-not-ordered.false in
     let p = sym c.permitted.ensures ∙ c.if-not-permitted.false in
-    c.parse-window.ensures ∙ simp (lt-ltb c.args.rule (length (grammar_of c.args.grammar.now)) (omega (arith, c.rule-count.ensures)), e, p)
+    c.parse_window.ensures ∙ simp (lt-ltb c.args.rule (length (grammar_of c.args.grammar.now)) (omega (arith, c.rule_count.ensures)), e, p)

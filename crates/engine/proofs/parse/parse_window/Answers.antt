@@ -9,8 +9,8 @@ use Rattle.frames.specs.Blanks.{blank_frame}
 use Rattle.engine.proofs.Parsing.{nodes_move, reach_moves, settled, all_left}
 use Rattle.engine.proofs.parse.parse_window.Goals as goal
 
-pub move-nodes-requires : goal.move-nodes-requires
-move-nodes-requires g c =
+pub move_nodes-requires : goal.move_nodes-requires
+move_nodes-requires g c =
     let bs = g.I.Input.shown c.args.input.now in
     let rd = g.R.FieldReader.meaning c.args.readers.now in
     let gr = grammar_of c.args.grammar.now in
@@ -19,7 +19,7 @@ move-nodes-requires g c =
     let shaped = shape rd gr limits c.args.rule v in
     let near : length v + c.args.left ≤ 16777216 = omega (arith, window_length bs.bytes c.args.left c.args.right c.requires.window.0 c.requires.window.1, bs.short, c.requires.window.0, c.requires.window.1) in
     let o = parse rd gr limits c.args.rule v in
-    (c.run-window-o.ensures.count, nodes_move c.args.left (length v) near gr limits c.args.rule c.run-window-o.result c.run-window-o.new.nodes o c.run-window-o.ensures.told shaped c.run-window-o.ensures.count)
+    (c.run_window-o.ensures.count, nodes_move c.args.left (length v) near gr limits c.args.rule c.run_window-o.result c.run_window-o.new.nodes o c.run_window-o.ensures.told shaped c.run_window-o.ensures.count)
 
 pub place-requires : goal.place-requires
 place-requires g c =
@@ -31,7 +31,7 @@ place-requires g c =
     let shaped = shape rd gr limits c.args.rule v in
     let near : length v + c.args.left ≤ 16777216 = omega (arith, window_length bs.bytes c.args.left c.args.right c.requires.window.0 c.requires.window.1, bs.short, c.requires.window.0, c.requires.window.1) in
     let o = parse rd gr limits c.args.rule v in
-    reach_moves c.args.left (length v) near gr limits c.args.rule c.run-window-o.result c.run-window-o.new.nodes o c.run-window-o.ensures.told shaped
+    reach_moves c.args.left (length v) near gr limits c.args.rule c.run_window-o.result c.run_window-o.new.nodes o c.run_window-o.ensures.told shaped
 
 pub returns : goal.returns
 returns g c =
@@ -43,7 +43,7 @@ returns g c =
     let shaped = shape rd gr limits c.args.rule v in
     let near : length v + c.args.left ≤ 16777216 = omega (arith, window_length bs.bytes c.args.left c.args.right c.requires.window.0 c.requires.window.1, bs.short, c.requires.window.0, c.requires.window.1) in
     let o = parse rd gr limits c.args.rule v in
-    let r = c.run-window-o.result in
-    let ns = settled c.args.left r c.run-window-o.new.nodes c.move-nodes.new.nodes c.clear-rest.new.nodes o c.run-window-o.ensures.told c.run-window-o.ensures.count c.move-nodes.ensures c.clear-rest.ensures (length c.args.nodes.now) (omega arith) in
-    all_left c.args.left r c.run-window-o.new.nodes c.move-nodes.new.nodes c.clear-rest.new.nodes o c.run-window-o.ensures.told c.run-window-o.ensures.count c.place.result c.clear.new.frames (length c.args.frames.now) (length c.args.nodes.now)
-    c.place.ensures (c.clear.ensures ∙ ap (λ k. replicate k blank_frame) c.run-window-o.auto.frames) ns
+    let r = c.run_window-o.result in
+    let ns = settled c.args.left r c.run_window-o.new.nodes c.move_nodes.new.nodes c.clear_rest.new.nodes o c.run_window-o.ensures.told c.run_window-o.ensures.count c.move_nodes.ensures c.clear_rest.ensures (length c.args.nodes.now) (omega arith) in
+    all_left c.args.left r c.run_window-o.new.nodes c.move_nodes.new.nodes c.clear_rest.new.nodes o c.run_window-o.ensures.told c.run_window-o.ensures.count c.place.result c.clear.new.frames (length c.args.frames.now) (length c.args.nodes.now)
+    c.place.ensures (c.clear.ensures ∙ ap (λ k. replicate k blank_frame) c.run_window-o.auto.frames) ns
