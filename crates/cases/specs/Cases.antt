@@ -11,7 +11,6 @@ use Rattle.meaning.specs.Answers.{answer_number}
 use Rattle.meaning.specs.Meaning.{Outcome, root, nothing_yet, parse}
 use Rattle.meaning.specs.declared.node.Node.{Node}
 use Rattle.meaning.specs.declared.op.Op.TheVariants.{Plus, Minus, Times, Divide, Remainder, Shift, Equal, Less}
-use Rattle.meaning.specs.declared.run.Limits.{Limits}
 
 -- ---- How the cases are written
 

@@ -1,14 +1,12 @@
 -- The engine's end, and its beginning.
-use Rattle.std.proofs.Common.{◌≡◌, ℕ, zero, suc, ◌+◌, ◌-◌, ◌<◌, ◌≤◌, List, [], ◌∷◌, length, get_or, take, sym, refl, ap, ◌∙◌, zero-le, arith}
+use Rattle.std.proofs.Common.{◌≡◌, ℕ, ◌-◌, ◌<◌, ◌≤◌, List, [], ◌∷◌, length, get_or, take, refl, ap, ◌∙◌, zero-le, arith}
 use lib.Seq.{slice, slice-cons}
 use Rattle.meaning.specs.Syntax.{Grammar}
-use Rattle.meaning.specs.Meaning.{Replies}
 use Rattle.meaning.specs.Runs.{Ran}
-use Rattle.meaning.specs.Meaning.{Tree, outcome, parse, start, root, at_first}
-use Rattle.meaning.specs.Meaning as meaning
+use Rattle.meaning.specs.Meaning.{Tree, outcome, parse, root, at_first}
 use Rattle.meaning.specs.Runs.Ran.{succeeds, fails, stops}
-use Rattle.machine.specs.Machine.{next_means, denote, whole, starts_at}
-use Rattle.machine.specs.Machine.Next.{on, over}
+use Rattle.machine.specs.Machine.{next_means, denote, whole}
+use Rattle.machine.specs.Machine.Next.{over}
 use Rattle.fields.specs.Fields.{Fields}
 use Rattle.meaning.specs.Meaning.{read_of}
 use Rattle.meaning.specs.declared.answer.Answer.{Answer}

@@ -1,8 +1,8 @@
 -- Refusals, and what is left behind.
-use Rattle.std.proofs.Common.{◌≡◌, ℕ, ◌+◌, ◌-◌, ◌<◌, ◌≤◌, Bool, true, false, cond, ◌&&◌, ltb, leb, ◌⊎◌, List, [], ◌∷◌, ◌++◌, map, length, get_or, take, drop, replicate, sym, refl, ap, ◌∙◌, inl, inr, arith, leb-true}
+use Rattle.std.proofs.Common.{◌≡◌, ℕ, ◌+◌, ◌-◌, ◌<◌, ◌≤◌, true, leb, List, ◌++◌, map, length, get_or, take, drop, replicate, sym, ap, ◌∙◌, inl, inr, arith, leb-true}
 use Rattle.std.proofs.lemmas.Bool.Decides.{nat_tests}
 use Rattle.std.proofs.lemmas.Bool.{and_parts}
-use Rattle.std.proofs.lemmas.List.{get_or-take, length-map, length-take-le, take_at, drop_at, take-take, length-append}
+use Rattle.std.proofs.lemmas.List.{get_or-take, length-map, length-take-le, take_at}
 use Rattle.meaning.specs.Meaning as meaning
 use Rattle.meaning.specs.declared.node.Node.{Node}
 use Rattle.meaning.specs.declared.window.Window.{Window}
@@ -10,7 +10,7 @@ use Rattle.frames.specs.declared.config.Frame.{Frame}
 use Rattle.engine.specs.declared.ending.Ending.{Ending}
 use Rattle.engine.specs.declared.outcome.Reply.TheVariants.{Ended}
 use Rattle.input.specs.Bytes.{in_order}
-use Rattle.meaning.specs.Shape.{Shaped, Placed, Inside, PartOf}
+use Rattle.meaning.specs.Shape.{Shaped, Inside, PartOf}
 use Rattle.meaning.specs.Meaning.{whole}
 use Rattle.meaning.specs.Syntax.{Grammar}
 use Rattle.meaning.specs.declared.run.Limits.{Limits}

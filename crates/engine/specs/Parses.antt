@@ -1,11 +1,10 @@
 -- What a parse answers, and what it leaves in the two tables.
-use Rattle.std.specs.Prelude.{ℕ, ◌-◌, Bool, cond, ◌&&◌, List, [], ◌∷◌, ◌++◌, map, length, take, replicate, nat_le, nat_lt}
+use Rattle.std.specs.Prelude.{ℕ, ◌-◌, Bool, cond, ◌&&◌, List, ◌++◌, map, length, take, replicate, nat_le, nat_lt}
 use Rattle.input.specs.Bytes.{in_order, window_of}
 use Rattle.fields.specs.Fields.{Fields}
 use Rattle.meaning.specs.Syntax.{Grammar}
 use Rattle.meaning.specs.Meaning as meaning
 use Rattle.meaning.specs.declared.node.Node.{Node}
-use Rattle.meaning.specs.declared.run.Limits.{Limits}
 use Rattle.tables.specs.Places.{placed, absolute}
 use Rattle.frames.specs.Blanks.{nowhere, blank_node, blank_frame}
 use Rattle.frames.specs.declared.config.Frame.{Frame}

@@ -2,6 +2,7 @@
 //
 //     let outcome = parse(&grammar, &Builtin, &input, 0, 0, input.len(), 1000, &mut frames, &mut nodes);
 #![tactic(auto)]
+
 mod drive;
 mod ending;
 pub mod outcome;

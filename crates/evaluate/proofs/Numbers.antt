@@ -1,15 +1,12 @@
 -- Numbers taken off a stack.
-use Rattle.std.proofs.Common.{◌≡◌, ℕ, zero, suc, ◌<◌, ◌≤◌, List, [], ◌∷◌, length, get_or, drop, Some, None, Ok, Err, Option, Result, sym, refl, ap, ◌∙◌, arith}
+use Rattle.std.proofs.Common.{◌≡◌, ℕ, zero, suc, ◌<◌, ◌≤◌, List, [], ◌∷◌, length, get_or, drop, Some, None, Ok, Result, refl, ap, arith}
 use Rattle.stack.specs.declared.refusal.StackRefusal.{StackRefusal}
 use Rattle.stack.specs.Stacks.{pop_answer}
-use Rattle.meaning.specs.Syntax.{Expr}
-use Rattle.meaning.specs.Syntax.Expr.{number, eoi, own, of_call, start_of, end_of, binary}
-use Rattle.meaning.specs.Values.{Progress, applied, value, if_some, nth}
+use Rattle.meaning.specs.Values.{Progress, applied, value, nth}
 use Rattle.meaning.specs.declared.op.Op.{Op}
 use Rattle.meaning.specs.declared.run.Start.{Start}
 use Rattle.sealed.specs.declared.code.Code.{Code}
 use Rattle.sealed.specs.declared.code.Code.TheVariants.{Number, Eoi, Own, OfCall, StartOf, EndOf, Apply, Bracket}
-use Rattle.sealed.specs.Codes.{broken, joined, bracketed, pending, trees, only, expr_of}
 use Rattle.evaluate.specs.Pending.{leaf_of, operated, latest, next_value, values_left, last_value}
 
 pub nth_at : (xs : List ℕ) (k d : ℕ) → k < length xs → Some (get_or xs k d) ≡ nth xs k

@@ -2,14 +2,14 @@
 use Rattle.std.proofs.Common.{◌≡◌, ℕ, ◌+◌, ◌<◌, ◌≤◌, List, [], ◌∷◌, length, get_or, drop, Some, None, Option, sym, refl, ap, ◌∙◌}
 use Rattle.std.proofs.lemmas.List.{drop_more, drop_all}
 use Rattle.meaning.specs.Syntax.{Expr}
-use Rattle.meaning.specs.Syntax.Expr.{number, eoi, own, of_call, start_of, end_of, binary}
-use Rattle.meaning.specs.Values.{Progress, applied, value, if_some, nth}
+use Rattle.meaning.specs.Syntax.Expr.{number, eoi, own, of_call, start_of, end_of}
+use Rattle.meaning.specs.Values.{Progress, applied, value, if_some}
 use Rattle.meaning.specs.declared.op.Op.{Op}
 use Rattle.meaning.specs.declared.run.Start.{Start}
 use Rattle.sealed.specs.declared.code.Code.{Code}
 use Rattle.sealed.specs.declared.code.Code.TheVariants.{Number, Eoi, Own, OfCall, StartOf, EndOf, Apply, Bracket}
-use Rattle.sealed.specs.Codes.{broken, joined, bracketed, pending, trees, only, expr_of}
-use Rattle.evaluate.specs.Pending.{leaf_of, operated, latest, next_value, values_left, last_value}
+use Rattle.sealed.specs.Codes.{joined, bracketed, pending, trees, only, expr_of}
+use Rattle.evaluate.specs.Pending.{operated, latest, next_value, values_left, last_value}
 
 abbrev no_list : Option (List ℕ)
 no_list = None

@@ -1,5 +1,6 @@
 // The value of an expression, run from its code over a stack of pending numbers.
 #![tactic(auto)]
+
 ghost use Rattle.std.specs.Prelude.{◌≡◌, length, drop};
 ghost use Rattle.stack.specs.Stacks.{held, room};
 ghost use Rattle.meaning.specs.Values.{nth, value as value_of_lem};

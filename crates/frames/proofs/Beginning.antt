@@ -1,22 +1,19 @@
 -- A start is let through, or stops the parse.
-use Rattle.std.proofs.Common.{◌≡◌, ℕ, zero, suc, ◌+◌, ◌-◌, ◌<◌, ◌≤◌, true, false, eqb, ltb, leb, List, [], ◌∷◌, length, get_or, sym, refl, ap, ◌∙◌, add-one, arith, le-ltb, lt-ltb, eq-eqb, ne_eqb, le-leb}
-use Rattle.fields.specs.declared.reading.Reading.{Reading}
+use Rattle.std.proofs.Common.{◌≡◌, ℕ, suc, ◌+◌, ◌-◌, ◌<◌, ◌≤◌, false, eqb, List, length, ◌∙◌, add-one, arith, le-ltb, lt-ltb, eq-eqb, ne_eqb}
 use Rattle.meaning.specs.Syntax.{Grammar}
 use Rattle.meaning.specs.Meaning.{Replies}
 use Rattle.meaning.specs.Meaning.{begin, one_more, field}
 use Rattle.machine.specs.Machine.{step, step_begin, step_body}
 use Rattle.meaning.specs.declared.answer.Answer.TheVariants.{Budget, Depth, Nodes}
 use Rattle.meaning.specs.declared.node.Node.{Node}
-use Rattle.meaning.specs.declared.window.Window.{Window}
 use Rattle.meaning.specs.declared.run.Start.{Start}
 use Rattle.meaning.specs.declared.run.State.{State}
 use Rattle.meaning.specs.declared.run.Limits.{Limits}
-use Rattle.sealed.specs.Grammars.{terms_in}
 use Rattle.frames.specs.declared.config.Frame.{Frame}
 use Rattle.frames.specs.declared.config.Mode.{Mode}
 use Rattle.frames.specs.declared.config.Mode.TheVariants.{Begins, Tries, Stopped}
 use Rattle.machine.specs.Machine.{next_step}
-use Rattle.frames.specs.Configs.{frames_of, stands, Stacked, Sound, Fielded, Few, Moves}
+use Rattle.frames.specs.Configs.{stands, Sound, Fielded, Few, Moves}
 
 module _ (read : Replies) (grammar : Grammar) (limits : Limits) (bytes : List ℕ) (rs : List Frame) (nodes : List Node) (count : ℕ) (s : State) (c : Start) where
   abbrev F : ℕ

@@ -1,19 +1,16 @@
 -- The machine's steps, one after the other.
-use Rattle.std.proofs.Common.{◌≡◌, ℕ, zero, suc, ◌+◌, ◌-◌, ◌<◌, ◌≤◌, Bool, true, false, List, [], ◌∷◌, map, length, get_or, drop, Some, None, vec_items, sym, refl, ap, ◌∙◌, zero-le, arith, lit≤}
+use Rattle.std.proofs.Common.{◌≡◌, ℕ, zero, suc, ◌<◌, true, false, List, [], ◌∷◌, length, get_or, drop, Some, None, sym, refl, ap, ◌∙◌, arith}
 use Rattle.sealed.specs.Parts.{item_at}
-use Rattle.meaning.specs.Syntax.{Grammar, Term, Alternative, Rule as Alternatives}
+use Rattle.meaning.specs.Syntax.{Grammar, Term}
 use Rattle.meaning.specs.Meaning.{Replies}
-use Rattle.meaning.specs.Runs.{Ran}
 use Rattle.machine.specs.Machine.{Config, Next, next_means}
 use Rattle.machine.specs.Machine.Next.{on, over}
-use Rattle.machine.specs.Machine.Mode.{begins, runs, tries, returns, gives_up}
 use Rattle.machine.proofs.Machine.{steps_fall}
 use Rattle.meaning.specs.declared.answer.Answer.{Answer}
 use Rattle.meaning.specs.declared.node.Node.{Node}
 use Rattle.meaning.specs.declared.run.State.{State}
 use Rattle.meaning.specs.declared.run.Start.{Start}
 use Rattle.meaning.specs.declared.run.Limits.{Limits}
-use Rattle.sealed.specs.Grammars.{terms_in}
 use Rattle.frames.specs.declared.config.Frame.{Frame}
 use Rattle.frames.specs.declared.config.Mode.{Mode}
 use Rattle.frames.specs.declared.config.Mode.TheVariants.{Begins, Runs, Tries, Returns, GivesUp, Matched, Failed, Stopped}

@@ -1,5 +1,5 @@
 -- What writing a node leaves of the frames, and what popping a pile tells.
-use Rattle.std.proofs.Common.{◌≡◌, ℕ, zero, suc, ◌+◌, ◌-◌, ◌<◌, ◌≤◌, ◌≢◌, List, [], ◌∷◌, ◌++◌, length, get_or, take, drop, set, Ok, Err, Result, sym, refl, ap, ◌∙◌, append_assoc, add-one, arith, take-append-drop, length-take-le, get_or-set_other, get_or-set_same, take-take}
+use Rattle.std.proofs.Common.{◌≡◌, ℕ, zero, suc, ◌+◌, ◌-◌, ◌<◌, ◌≤◌, ◌≢◌, List, [], ◌∷◌, ◌++◌, length, get_or, take, drop, set, Ok, Err, sym, refl, ap, ◌∙◌, add-one, arith, take-append-drop, length-take-le, get_or-set_other, take-take}
 use lib.Seq.{slice, take-set-le, slice-cons, drop-append-le}
 use Rattle.stack.specs.declared.refusal.StackRefusal.{StackRefusal}
 use Rattle.stack.specs.Stacks.{pop_answer}

@@ -1,13 +1,11 @@
 -- Each step of the engine is a step of the machine.
-use Rattle.std.proofs.Common.{◌≡◌, ℕ, zero, suc, ◌+◌, ◌-◌, ◌<◌, ◌≤◌, List, [], ◌∷◌, ◌++◌, length, get_or, drop, Ok, Err, sym, refl, ap, ◌∙◌, subst, add-one, arith}
-use lib.Seq.{slice}
+use Rattle.std.proofs.Common.{◌≡◌, ℕ, suc, ◌+◌, ◌<◌, List, [], ◌∷◌, length, get_or, drop, Ok, Err, sym, refl, ap, ◌∙◌, add-one, arith}
 use Rattle.std.proofs.lemmas.List.{get_or_default}
 use Rattle.meaning.specs.Syntax.{Grammar}
 use Rattle.meaning.specs.Meaning.{Replies}
 use Rattle.meaning.specs.Windows.{cover}
 use Rattle.meaning.specs.Meaning.{with_call}
-use Rattle.machine.specs.Machine.{step, go}
-use Rattle.machine.specs.Machine.Mode.{runs}
+use Rattle.machine.specs.Machine.{step}
 use Rattle.meaning.specs.declared.node.Node.{Node}
 use Rattle.meaning.specs.declared.window.Window.{Window}
 use Rattle.meaning.specs.declared.run.State.{State}
@@ -15,11 +13,11 @@ use Rattle.meaning.specs.declared.run.Limits.{Limits}
 use Rattle.stack.specs.declared.refusal.StackRefusal.{StackRefusal}
 use Rattle.stack.specs.Stacks.{pop_answer}
 use Rattle.frames.specs.declared.config.Frame.{Frame}
-use Rattle.frames.specs.declared.config.Mode.TheVariants.{Begins, Runs, Tries, Returns, GivesUp, Matched, Failed, Stopped}
+use Rattle.frames.specs.declared.config.Mode.TheVariants.{Runs, Tries, Returns, GivesUp, Matched, Failed}
 use Rattle.machine.specs.Machine.{next_step}
 use Rattle.frames.specs.Blanks.{blank_node}
 use Rattle.frames.specs.Configs.{tree_at, frame_of, frames_of, stands, Stacked, Sound, Moves, Small}
-use Rattle.frames.proofs.Frames.{grown, frames_kept}
+use Rattle.frames.proofs.Frames.{grown}
 
 abbrev pub with_used : Frame → Window → Frame
 with_used f w = record { what = f.what; alt = f.alt; place = f.place; next = f.next; after = f.after; used = w }

@@ -1,7 +1,7 @@
 -- A reader's answer for a window.
-use Rattle.std.proofs.Common.{◌≡◌, ℕ, zero, suc, ◌+◌, ◌-◌, ◌<◌, ◌≤◌, Bool, true, false, cond, leb, List, [], ◌∷◌, length, get_or, take, drop, set, replicate, Some, None, Option, sym, refl, ap, ◌∙◌, add-one, arith, le-leb}
-use lib.Seq.{slice, slice_empty, length-slice}
-use Rattle.std.proofs.lemmas.List.{drop-take, get_or-set_same, length-set}
+use Rattle.std.proofs.Common.{◌≡◌, ℕ, suc, ◌+◌, ◌<◌, ◌≤◌, Bool, true, false, cond, List, length, set, Some, None, Option, sym, ap, ◌∙◌, add-one, arith, le-leb}
+use lib.Seq.{slice_empty}
+use Rattle.std.proofs.lemmas.List.{get_or-set_same, length-set}
 use Rattle.input.proofs.Windows.{window_length}
 use Rattle.fields.specs.Fields.{Fields, read_on}
 use Rattle.fields.specs.declared.reading.Reading.{Reading}

@@ -1,28 +1,26 @@
 -- A term is run.
-use Rattle.std.proofs.Common.{◌≡◌, ℕ, zero, suc, ◌+◌, ◌-◌, ◌<◌, ◌≤◌, Bool, true, false, cond, ◌&&◌, eqb, leb, List, [], ◌∷◌, ◌++◌, length, get_or, drop, set, Some, None, Option, sym, refl, ap, ◌∙◌, add-one, arith, eq-eqb, ne_eqb, le-leb, leb-true}
+use Rattle.std.proofs.Common.{◌≡◌, ℕ, suc, ◌+◌, ◌-◌, ◌<◌, ◌≤◌, Bool, true, false, cond, ◌&&◌, leb, List, [], ◌∷◌, length, get_or, drop, set, Some, None, Option, sym, refl, ap, ◌∙◌, add-one, arith, eq-eqb, ne_eqb, leb-true}
 use lib.Seq.{slice, length-slice}
 use Rattle.std.proofs.lemmas.List.{get_or-set_same, length-set, get_or_default}
 use Rattle.std.proofs.lemmas.Bool.{and_parts}
-use Rattle.meaning.specs.Syntax.{Grammar, Expr, Term, Alternative}
+use Rattle.meaning.specs.Syntax.{Grammar, Expr, Term}
 use Rattle.meaning.specs.Syntax.Term.{literal, call, attribute, guard}
 use Rattle.meaning.specs.Meaning.{Replies}
 use Rattle.meaning.specs.Values.{Progress, value, ends, if_some}
 use Rattle.meaning.specs.Windows.{cover, bytes_in}
-use Rattle.meaning.specs.Runs.{Ran, ◌>>=◌, ◌>>◌, goes_on, have, need}
+use Rattle.meaning.specs.Runs.{◌>>=◌, ◌>>◌, goes_on, have, need}
 use Rattle.meaning.specs.Meaning.{reads, matches, same, term, with_literal, with_slot, nested, tree}
-use Rattle.meaning.specs.Runs.Ran.{succeeds, fails}
 use Rattle.machine.specs.Machine.{Next, step, step_term, step_terms, after_term, after_ends, go, advanced, Frame as Unfinished}
-use Rattle.machine.specs.Machine.Mode.{runs, tries, begins}
+use Rattle.machine.specs.Machine.Mode.{runs, tries}
 use Rattle.meaning.specs.declared.node.Node.{Node}
 use Rattle.meaning.specs.declared.window.Window.{Window}
 use Rattle.meaning.specs.declared.run.Start.{Start}
 use Rattle.meaning.specs.declared.run.State.{State}
 use Rattle.meaning.specs.declared.run.Limits.{Limits}
-use Rattle.sealed.specs.Grammars.{terms_in}
 use Rattle.frames.specs.declared.config.Config.{Config}
 use Rattle.frames.specs.declared.config.Frame.{Frame}
 use Rattle.frames.specs.declared.config.Mode.{Mode}
-use Rattle.frames.specs.declared.config.Mode.TheVariants.{Begins, Runs, Tries, Returns}
+use Rattle.frames.specs.declared.config.Mode.TheVariants.{Begins, Runs, Returns}
 use Rattle.machine.specs.Machine.{next_step}
 use Rattle.frames.specs.Blanks.{blank_node}
 use Rattle.frames.specs.Configs.{so_of, onward, next_try, todo_of, more_of, tree_at, frame_of, frames_of, stands, Stacked, Sound, Moves, NextIs}

@@ -1,11 +1,11 @@
 -- An alternative begins, or there is none left.
-use Rattle.std.proofs.Common.{◌≡◌, ℕ, zero, suc, ◌+◌, ◌-◌, ◌<◌, ◌≤◌, List, [], ◌∷◌, ◌++◌, length, get_or, drop, set, replicate, Some, None, sym, refl, ap, ◌∙◌, subst, add-one, arith}
-use lib.Seq.{slice, slice_empty}
+use Rattle.std.proofs.Common.{◌≡◌, ℕ, zero, suc, ◌+◌, ◌-◌, ◌<◌, ◌≤◌, List, [], ◌∷◌, length, get_or, drop, set, replicate, Some, None, refl, ap, add-one, arith}
+use lib.Seq.{slice_empty}
 use Rattle.std.proofs.lemmas.List.{get_or-set_same, length-set}
 use Rattle.meaning.specs.Syntax.{Grammar, Alternative}
 use Rattle.meaning.specs.Meaning.{Replies}
 use Rattle.meaning.specs.Meaning.{nothing_yet}
-use Rattle.machine.specs.Machine.{step, go}
+use Rattle.machine.specs.Machine.{step}
 use Rattle.meaning.specs.declared.node.Node.{Node}
 use Rattle.meaning.specs.declared.window.Window.{Window}
 use Rattle.meaning.specs.declared.run.Start.{Start}
@@ -13,12 +13,12 @@ use Rattle.meaning.specs.declared.run.State.{State}
 use Rattle.meaning.specs.declared.run.Limits.{Limits}
 use Rattle.sealed.specs.Grammars.{terms_in}
 use Rattle.frames.specs.declared.config.Frame.{Frame}
-use Rattle.frames.specs.declared.config.Mode.TheVariants.{Begins, Runs, Tries, Returns, GivesUp, Matched, Failed, Stopped}
+use Rattle.frames.specs.declared.config.Mode.TheVariants.{Runs, Tries, GivesUp}
 use Rattle.sealed.specs.Parts.{item_at, length_of}
 use Rattle.machine.specs.Machine.{next_step}
 use Rattle.frames.specs.Blanks.{blank_node}
-use Rattle.frames.specs.Configs.{tree_at, frame_of, frames_of, stands, Stacked, Sound, Moves}
-use Rattle.frames.proofs.Frames.{grown, frames_kept}
+use Rattle.frames.specs.Configs.{frame_of, stands, Sound, Moves}
+use Rattle.frames.proofs.Frames.{frames_kept}
 
 none_there : (xs : List Alternative) (i : ℕ) → None ≡ length_of (item_at xs i) → drop i xs ≡ []
 unfolding item_at length_of

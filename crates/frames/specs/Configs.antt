@@ -1,5 +1,5 @@
 -- The state of the machine that a configuration, its frames, the latest first, and its nodes stand for.
-use Rattle.std.specs.Prelude.{◌≡◌, ℕ, zero, suc, ◌+◌, ◌-◌, ◌<◌, ◌≤◌, Bool, true, false, List, [], ◌∷◌, length, get_or, drop, slice_index_or}
+use Rattle.std.specs.Prelude.{◌≡◌, ℕ, suc, ◌+◌, ◌-◌, ◌<◌, ◌≤◌, Bool, true, false, List, [], ◌∷◌, length, get_or, drop, slice_index_or}
 use Rattle.std.proofs.Math.Seq.{slice}
 use Rattle.fields.specs.declared.reading.Reading.{Reading}
 use Rattle.meaning.specs.Syntax.{Grammar, Term, Alternative, Rule}
@@ -13,7 +13,7 @@ use Rattle.meaning.specs.declared.run.Start.{Start}
 use Rattle.meaning.specs.declared.run.State.{State}
 use Rattle.meaning.specs.declared.window.Window.{Window}
 use Rattle.machine.specs.Machine.{Next, go, after_field, next_step, Frame as Unfinished}
-use Rattle.machine.specs.Machine.Next.{on, over}
+use Rattle.machine.specs.Machine.Next.{over}
 use Rattle.machine.specs.Machine.Mode.{begins, runs, tries, returns, gives_up}
 use Rattle.sealed.specs.Grammars.{terms_in}
 use Rattle.frames.specs.Blanks.{blank_node}

@@ -1,27 +1,26 @@
 -- The machine, one step at a time, comes to what the meaning says.
-use Rattle.std.proofs.Common.{◌≡◌, ℕ, zero, suc, ◌+◌, ◌-◌, ◌*◌, ◌<◌, ◌≤◌, Bool, true, false, cond, eqb, ltb, leb, List, [], ◌∷◌, length, get_or, Some, None, Option, sym, refl, ap, ◌∙◌, subst, zero-le, arith, lit≤}
+use Rattle.std.proofs.Common.{◌≡◌, ℕ, zero, suc, ◌+◌, ◌-◌, ◌<◌, ◌≤◌, Bool, true, false, cond, eqb, ltb, List, [], ◌∷◌, length, get_or, Some, None, Option, sym, refl, ap, ◌∙◌, subst, zero-le, arith, lit≤}
 use Rattle.std.proofs.lemmas.Bool.Decides.{nat_tests}
-use Rattle.fields.specs.Fields.{Fields}
 use Rattle.fields.specs.declared.reading.Reading.{Reading}
-use Rattle.meaning.specs.Syntax.{Expr, Term, Alternative, Grammar}
+use Rattle.meaning.specs.Syntax.{Term, Alternative, Grammar}
 use Rattle.meaning.specs.Syntax.Term.{literal, call, attribute, guard}
 use Rattle.meaning.specs.Values.{Progress, ends}
-use Rattle.meaning.specs.Runs.{Ran, Run, goes_on, instead, ◌>>=◌, ◌>>◌, ◌or_else◌, need, have}
+use Rattle.meaning.specs.Runs.{Ran, Run, goes_on, instead, ◌>>=◌, ◌>>◌, ◌or_else◌, have}
 use Rattle.meaning.specs.Runs.Ran.{succeeds, fails, stops}
-use Rattle.meaning.specs.Meaning.{Replies, Tree, Outcome, nothing_yet, tree, with_call, nested, leaf, one_more, begin, field, term, terms, alternatives, start, outcome, read_of, root, at_first, parse}
+use Rattle.meaning.specs.Meaning.{Replies, Tree, Outcome, tree, with_call, nested, leaf, one_more, begin, field, term, terms, alternatives, start, outcome, read_of, at_first, parse}
 use Rattle.meaning.specs.declared.answer.Answer.{Answer}
 use Rattle.meaning.specs.declared.answer.Answer.TheVariants.{Budget, Depth, Nodes}
 use Rattle.meaning.specs.declared.run.Limits.{Limits}
 use Rattle.meaning.specs.declared.run.Start.{Start}
 use Rattle.meaning.specs.declared.run.State.{State}
 use Rattle.meaning.specs.declared.window.Window.{Window}
-use Rattle.machine.specs.Machine.{Frame, Mode, Config, Next, called, go, advanced, after_term, after_ends, after_field}
+use Rattle.machine.specs.Machine.{Frame, Mode, Config, Next, after_term, after_ends, after_field}
 use Rattle.machine.specs.Machine.Mode.{begins, runs, tries, returns, gives_up}
 use Rattle.machine.specs.Machine.Next.{on, over}
 use Rattle.machine.specs.Machine.{rest_of as rest_of', run as run', whole as whole', denote as denote', starts_at as starts_at', means as means', next_means as next_means', step_term as step_term', step_terms as step_terms', step_body as step_body', step_begin as step_begin', step as step', next_step as next_step', iterate as iterate'}
 use Rattle.machine.specs.Work.{alts, stack_work, mode_work, width, work, to_do, InBudget}
 use Rattle.machine.specs.Laws.{StepsKeep, StepsFall, Computes, EndsAs, begun}
-use Rattle.machine.proofs.Still.{after, Still, filled, term_still}
+use Rattle.machine.proofs.Still.{after, filled, term_still}
 
 -- runs are joined by goes_on: grouping does not matter
 goes_on_assoc : {A B C : Type 0} (r : Ran A) (f : A → Run B) (g : B → Run C) → goes_on (goes_on r f) g ≡ goes_on r (λ a s. goes_on (f a s) g)

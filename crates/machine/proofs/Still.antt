@@ -7,7 +7,7 @@ use Rattle.meaning.specs.Values.{Progress}
 use Rattle.meaning.specs.Windows.{bytes_in}
 use Rattle.meaning.specs.Runs.{Ran, Run, goes_on, ◌>>=◌, ◌>>◌, need, have}
 use Rattle.meaning.specs.Runs.Ran.{succeeds, fails, stops}
-use Rattle.meaning.specs.Meaning.{Replies, Tree, reads, matches, noted, field, term}
+use Rattle.meaning.specs.Meaning.{Replies, reads, matches, noted, field, term}
 use Rattle.meaning.specs.declared.run.Start.{Start}
 use Rattle.meaning.specs.declared.run.State.{State}
 use Rattle.meaning.specs.declared.window.Window.{Window}

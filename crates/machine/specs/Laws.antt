@@ -2,8 +2,7 @@
 use Rattle.std.specs.Prelude.{◌≡◌, ℕ, ◌<◌, List, [], length}
 use Rattle.fields.specs.Fields.{Fields}
 use Rattle.meaning.specs.Syntax.{Grammar}
-use Rattle.meaning.specs.Runs.{Ran}
-use Rattle.meaning.specs.Meaning.{Replies, Outcome, Tree, outcome, read_of, root, at_first, parse}
+use Rattle.meaning.specs.Meaning.{Replies, Outcome, outcome, read_of, root, at_first, parse}
 use Rattle.meaning.specs.declared.run.Limits.{Limits}
 use Rattle.machine.specs.Machine.{Config, Next, go, next_means, next_step, iterate}
 use Rattle.machine.specs.Machine.Next.{on, over}

@@ -1,8 +1,8 @@
 -- A machine that parses one small step at a time over a stack of unfinished starts. What each of its parts still comes
 -- to is told by the meaning of rules.
-use Rattle.std.specs.Prelude.{ℕ, zero, suc, ◌+◌, Bool, true, false, cond, List, [], ◌∷◌, length, Some, None, Option, nat_lt, slice_index_or}
+use Rattle.std.specs.Prelude.{ℕ, zero, suc, ◌+◌, Bool, true, false, List, [], ◌∷◌, length, Some, None, Option, nat_lt, slice_index_or}
 use Rattle.fields.specs.declared.reading.Reading.{Reading}
-use Rattle.meaning.specs.Syntax.{Expr, Term, Alternative, Grammar}
+use Rattle.meaning.specs.Syntax.{Term, Alternative, Grammar}
 use Rattle.meaning.specs.Syntax.Term.{literal, call, attribute, guard}
 use Rattle.meaning.specs.Values.{Progress, ends}
 use Rattle.meaning.specs.Runs.{Ran, Run, goes_on, instead}

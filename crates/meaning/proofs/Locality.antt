@@ -1,10 +1,10 @@
 -- The reach only grows, and a run depends on the bytes inside it alone. `Alike` relates a run on one list of bytes with
 -- the same run on another; every way of joining runs keeps it.
-use Rattle.std.proofs.Common.{◌≡◌, ℕ, zero, suc, ◌+◌, ◌-◌, ◌<◌, ◌≤◌, min, max, Bool, true, false, cond, eqb, ltb, leb, ◌≢◌, ◌⊎◌, List, [], ◌∷◌, length, get_or, take, drop, set, Some, None, Option, sym, refl, ap, ◌∙◌, inl, inr, arith, length-drop, length-take, get_or-drop, get_or-set_other, get_or-take, ext_get_or}
+use Rattle.std.proofs.Common.{◌≡◌, ℕ, zero, suc, ◌+◌, ◌-◌, ◌<◌, ◌≤◌, min, Bool, true, false, cond, eqb, ltb, ◌≢◌, ◌⊎◌, List, [], ◌∷◌, length, get_or, take, drop, set, Some, None, Option, sym, refl, ap, ◌∙◌, inl, inr, arith, length-drop, length-take, get_or-drop, get_or-set_other, get_or-take, ext_get_or}
 use mathlib.Core.Path.{fun_ext}
 use lib.Seq.{sets, length-sets}
 use Rattle.std.proofs.lemmas.Bool.Decides.{nat_tests}
-use Rattle.input.specs.Bytes.{in_order, window_of}
+use Rattle.input.specs.Bytes.{in_order}
 use Rattle.fields.specs.Fields.{Fields}
 use Rattle.fields.specs.declared.reading.Reading.{Reading}
 use Rattle.meaning.specs.Syntax.{Term, Alternative, Grammar}
@@ -13,7 +13,7 @@ use Rattle.meaning.specs.Windows.{cover, bytes_in}
 use Rattle.meaning.specs.Values.{Progress}
 use Rattle.meaning.specs.Runs.{Ran, Run, goes_on, instead, ◌>>=◌, ◌>>◌, ◌or_else◌, need, have}
 use Rattle.meaning.specs.Runs.Ran.{succeeds, fails, stops}
-use Rattle.meaning.specs.Meaning.{Tree, Outcome, Replies, reads, same, matches, read_of, noted, field, one_more, begin, term, terms, alternatives, start, outcome, root, at_first, parse}
+use Rattle.meaning.specs.Meaning.{Tree, Replies, reads, same, matches, read_of, noted, field, one_more, begin, term, terms, alternatives, start, outcome, root, at_first, parse}
 use Rattle.meaning.specs.Locality.{Within, SameIn, Locality, Untouched, SameReaders}
 use Rattle.meaning.specs.declared.answer.Answer.TheVariants.{Budget, Depth, Nodes}
 use Rattle.meaning.specs.declared.run.Limits.{Limits}

@@ -1,19 +1,19 @@
 -- Every outcome has the shape that is stated of it. `Keeps` says of a run that it keeps what is known of the state, and
 -- what it gives where it succeeds; every way of joining runs keeps it.
-use Rattle.std.proofs.Common.{◌≡◌, ℕ, zero, suc, ◌+◌, ◌-◌, ◌<◌, ◌≤◌, min, max, Bool, true, false, cond, ◌&&◌, eqb, ltb, leb, ◌⊎◌, List, [], ◌∷◌, ◌++◌, length, get_or, take, drop, set, replicate, Some, None, Option, sym, refl, ap, ◌∙◌, subst, subst₂, inl, inr, arith, length-append, length-drop, length-set, length-take}
+use Rattle.std.proofs.Common.{◌≡◌, ℕ, zero, suc, ◌+◌, ◌-◌, ◌<◌, ◌≤◌, min, max, Bool, true, false, cond, eqb, ltb, leb, List, [], ◌∷◌, length, get_or, take, drop, Some, None, Option, sym, refl, ap, ◌∙◌, subst, subst₂, inl, inr, arith, length-append, length-drop, length-set, length-take}
 use Rattle.std.proofs.lemmas.Bool.{and_parts, leb-true, leb-false, ltb-true, ltb-false, eqb-false}
 use Rattle.std.proofs.lemmas.Bool.Decides.{nat_tests}
-use Rattle.input.specs.Bytes.{in_order, window_of}
+use Rattle.input.specs.Bytes.{in_order}
 use Rattle.fields.specs.Fields.{Fields}
 use Rattle.fields.specs.declared.reading.Reading.{Reading}
 use Rattle.meaning.specs.Syntax.{Expr, Term, Alternative, Rule, Grammar}
 use Rattle.meaning.specs.Syntax.Expr.{number}
 use Rattle.meaning.specs.Syntax.Term.{literal, call, attribute, guard}
-use Rattle.meaning.specs.Windows.{size, left_end, cover, bytes_in}
+use Rattle.meaning.specs.Windows.{cover, bytes_in}
 use Rattle.meaning.specs.Values.{Progress, if_some, value, ends}
 use Rattle.meaning.specs.Runs.{Ran, Run, goes_on, instead, ◌>>=◌, ◌>>◌, ◌or_else◌, need, have}
 use Rattle.meaning.specs.Runs.Ran.{succeeds, fails, stops}
-use Rattle.meaning.specs.Meaning.{Tree, Outcome, Replies, reads, matches, read_of, noted, field, one_more, begin, nothing_yet, tree, leaf, with_literal, with_call, with_slot, nested, term, terms, alternatives, start, outcome, whole, root, at_first, parse}
+use Rattle.meaning.specs.Meaning.{Tree, reads, matches, read_of, noted, field, one_more, begin, nothing_yet, tree, leaf, with_literal, with_call, with_slot, nested, term, terms, alternatives, start, outcome, whole, root, at_first, parse}
 use Rattle.meaning.specs.Shape.{Inside, LiesIn, PartOf, terms_before, IsCall, TermCalls, Proper, Called, Calls, Rooted, Told, AllPlaced, Shaped, Shape}
 use Rattle.meaning.specs.Shape.Calls.{none, one_more as one_call}
 use Rattle.meaning.specs.declared.answer.Answer.{Answer}

@@ -1,7 +1,7 @@
 -- What every outcome looks like, for every grammar, readers, limits, rule and bytes.
-use Rattle.std.specs.Prelude.{◌≡◌, ℕ, zero, suc, ◌+◌, ◌-◌, ◌<◌, ◌≤◌, cond, ◌⊎◌, List, [], ◌∷◌, ◌++◌, length, get_or, slice_index_or}
+use Rattle.std.specs.Prelude.{◌≡◌, ℕ, zero, suc, ◌+◌, ◌-◌, ◌<◌, ◌≤◌, ◌⊎◌, List, [], ◌∷◌, ◌++◌, length, get_or, slice_index_or}
 use Rattle.fields.specs.Fields.{Fields}
-use Rattle.meaning.specs.Syntax.{Expr, Term, Alternative, Rule, Grammar}
+use Rattle.meaning.specs.Syntax.{Term, Rule, Grammar}
 use Rattle.meaning.specs.Syntax.Expr.{number}
 use Rattle.meaning.specs.Syntax.Term.{literal, call, attribute, guard}
 use Rattle.meaning.specs.Windows.{left_end}

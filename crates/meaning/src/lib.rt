@@ -1,6 +1,7 @@
 // The written meaning of a grammar: what a parse of a list of bytes comes to. `specs` states it; this crate has the
 // types that it speaks of, the small functions that an engine needs of it, and its theorems.
 #![tactic(auto)]
+
 pub mod answer;
 pub mod laws;
 pub mod node;

@@ -1,5 +1,5 @@
 -- Rules, alternatives and terms, where a sealed grammar holds them.
-use Rattle.std.proofs.Common.{◌≡◌, ℕ, zero, suc, ◌+◌, ◌*◌, ◌<◌, ◌≤◌, List, [], ◌∷◌, map, length, get_or, Some, None, vec_items, vec_len, Option, sym, refl, ap, ◌∙◌, subst, zero-le, arith}
+use Rattle.std.proofs.Common.{◌≡◌, ℕ, ◌*◌, ◌≤◌, List, [], ◌∷◌, map, length, get_or, Some, None, vec_items, Option, sym, ap, ◌∙◌, zero-le, arith}
 use lib.ListN.{length-map}
 use Rattle.meaning.specs.Syntax as syntax
 use Rattle.sealed.specs.Grammars.{term_in, terms_of, alternatives_of, grammar_of, terms_in}

@@ -1,8 +1,8 @@
 -- Parts of lists, and their items.
-use Rattle.std.proofs.Common.{◌≡◌, ℕ, zero, suc, ◌+◌, ◌-◌, ◌<◌, ◌≤◌, min, ◌⊎◌, List, [], ◌∷◌, map, length, get_or, take, drop, Some, None, Option, sym, refl, ap, ◌∙◌, inl, inr, ⊎_elim, arith, length-drop, length-take}
+use Rattle.std.proofs.Common.{◌≡◌, ℕ, zero, suc, ◌-◌, ◌<◌, ◌≤◌, min, List, [], ◌∷◌, map, length, get_or, take, drop, Some, None, sym, refl, ap, ◌∙◌, ⊎_elim, arith, length-drop, length-take}
 use Rattle.std.proofs.lemmas.Bool.Decides.{leb_tells}
 use Rattle.std.proofs.lemmas.List.{drop_all, take_all, take-map, drop-map, take_rest}
-use Rattle.sealed.specs.Parts.{part, item_at, length_of, shown_by}
+use Rattle.sealed.specs.Parts.{part, item_at, shown_by}
 use Rattle.sealed.specs.declared.span.Span.{Span}
 
 module _ {X : Type 0} where

@@ -1,5 +1,6 @@
 // The small steps of the engine, each one step of the machine.
 #![tactic(auto)]
+
 pub mod begin;
 pub mod runs;
 pub mod steps;

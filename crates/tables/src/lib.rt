@@ -1,5 +1,6 @@
 // What is done to the two lent tables once the steps are over: blanks, and places of the input.
 #![tactic(auto)]
+
 ghost use Rattle.std.specs.Prelude.{◌≡◌, ℕ, ◌+◌, ◌-◌, ◌<◌, ◌≤◌, List, ◌++◌, map, length, take, drop, replicate, slice_index_or};
 ghost use Rattle.frames.specs.Blanks.{blank_node, blank_frame};
 ghost use Rattle.tables.specs.Places.{placed, absolute, FitAt, NodeFits};

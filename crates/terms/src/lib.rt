@@ -1,5 +1,6 @@
 // What a term needs: the value of an expression where a start has come, its window, and a look at the input.
 #![tactic(auto)]
+
 ghost use Rattle.std.specs.Prelude.{◌≡◌, ℕ, ◌+◌, ◌-◌, ◌<◌, ◌≤◌, List, [], ◌∷◌, length, slice_set};
 ghost use Rattle.meaning.specs.Meaning.{same};
 ghost use Rattle.meaning.specs.Values.{value as value_at, ends as ends_at};

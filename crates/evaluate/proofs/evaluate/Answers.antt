@@ -1,4 +1,4 @@
-use Rattle.std.proofs.Common.{◌≡◌, ℕ, ◌+◌, ◌<◌, ◌≤◌, List, [], ◌∷◌, length, get_or, drop, Some, None, vec_items, sym, refl, ap, ◌∙◌, arith}
+use Rattle.std.proofs.Common.{◌≡◌, ◌<◌, ◌≤◌, ◌∷◌, length, vec_items, ap, ◌∙◌, arith}
 use Rattle.std.proofs.lemmas.List.{length-take-le}
 use Rattle.stack.specs.Stacks.{held, room}
 use Rattle.meaning.specs.Values.{Progress, value}
@@ -6,7 +6,7 @@ use Rattle.sealed.specs.Codes.{expr_of}
 use Rattle.sealed.proofs.Pieces.{part_short}
 use Rattle.evaluate.proofs.Numbers.{left_few}
 use Rattle.evaluate.proofs.Pushing.{pushed_held, pushed_room}
-use Rattle.evaluate.proofs.Worth.{worth, worth_more, worth_none, worth_end, comes_to}
+use Rattle.evaluate.proofs.Worth.{worth_more, worth_none, worth_end, comes_to}
 use Rattle.evaluate.proofs.evaluate.Goals as goal
 
 pub returns-in_default : goal.returns-in_default

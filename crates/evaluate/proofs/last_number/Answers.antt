@@ -1,4 +1,4 @@
-use Rattle.std.proofs.Common.{◌≡◌, length, drop, sym, refl, ap, ◌∙◌}
+use Rattle.std.proofs.Common.{length, sym, ap, ◌∙◌}
 use Rattle.stack.specs.Stacks.{held}
 use Rattle.evaluate.proofs.Numbers.{un_popped, fin_none, fin_one, fin_more}
 use Rattle.evaluate.proofs.last_number.Goals as goal

@@ -1,4 +1,4 @@
-use Rattle.std.proofs.Common.{◌≡◌, sym, refl, ap, ◌∙◌}
+use Rattle.std.proofs.Common.{refl, ◌∙◌}
 use Rattle.evaluate.specs.Pending.{next_value, values_left}
 use Rattle.evaluate.proofs.Numbers.{taken_part, left_part}
 use Rattle.evaluate.proofs.next_number.Goals as goal

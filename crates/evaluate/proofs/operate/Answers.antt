@@ -1,4 +1,4 @@
-use Rattle.std.proofs.Common.{◌≡◌, [], drop, sym, refl, ap, ◌∙◌}
+use Rattle.std.proofs.Common.{drop, sym, ap, ◌∙◌}
 use Rattle.std.proofs.lemmas.List.{drop-drop}
 use Rattle.stack.specs.Stacks.{held, pop_answer}
 use Rattle.evaluate.proofs.Numbers.{un_popped, op_none, op_two}

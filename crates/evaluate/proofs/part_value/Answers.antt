@@ -1,5 +1,5 @@
-use Rattle.std.proofs.Common.{◌≡◌, Some, None, sym, refl, ap, ◌∙◌}
-use Rattle.meaning.specs.Values.{value, if_some, nth, applied}
+use Rattle.std.proofs.Common.{Some, sym, ap}
+use Rattle.meaning.specs.Values.{value, if_some, applied}
 use Rattle.evaluate.proofs.part_value.Goals as goal
 
 pub returns-in-Number : goal.returns-in-Number

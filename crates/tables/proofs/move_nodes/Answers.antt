@@ -1,4 +1,4 @@
-use Rattle.std.proofs.Common.{◌<◌, length, get_or, arith}
+use Rattle.std.proofs.Common.{get_or, arith}
 use Rattle.tables.specs.Places.{absolute}
 use Rattle.tables.proofs.Cleared.{fits_now, absolute_is, map_next, rest_next, map_all}
 use Rattle.tables.proofs.move_nodes.Goals as goal

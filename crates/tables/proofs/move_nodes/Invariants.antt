@@ -1,4 +1,4 @@
-use Rattle.std.proofs.Common.{◌≡◌, ◌++◌, map, take, drop}
+use Rattle.std.proofs.Common.{◌≡◌, map, take, drop}
 use Rattle.tables.specs.Places.{absolute}
 use Rattle.tables.proofs.move_nodes.Given as goal
 

@@ -1,4 +1,4 @@
-use Rattle.std.proofs.Common.{◌≡◌, sym, refl, ap, ◌∙◌}
+use Rattle.std.proofs.Common.{ap, ◌∙◌}
 use Rattle.meaning.specs.Values.{value}
 use Rattle.sealed.specs.Grammars.{expr_in}
 use Rattle.frames.proofs.Frames.{so_is}

@@ -1,4 +1,4 @@
-use Rattle.std.proofs.Common.{◌≡◌, ◌-◌, sym, refl, ap, ◌∙◌, arith, le-leb}
+use Rattle.std.proofs.Common.{◌-◌, sym, arith, le-leb}
 use borrow.Author.Tests.{lt-leb}
 use Rattle.meaning.specs.Values.{ends, if_some}
 use Rattle.terms.proofs.window_of.Goals as goal

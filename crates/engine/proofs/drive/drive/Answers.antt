@@ -1,11 +1,10 @@
-use Rattle.std.proofs.Common.{◌≡◌, sym, refl, ap, ◌∙◌}
-use Rattle.stack.specs.Stacks.{held, room}
+use Rattle.std.proofs.Common.{sym, ap, ◌∙◌}
+use Rattle.stack.specs.Stacks.{held}
 use Rattle.machine.specs.Machine.Next.{over}
 use Rattle.machine.specs.Machine.{next_means}
 use Rattle.sealed.specs.Grammars.{grammar_of}
 use Rattle.meaning.specs.Meaning.{read_of}
-use Rattle.machine.specs.Work.{InBudget}
-use Rattle.frames.specs.Configs.{stands, Moves}
+use Rattle.frames.specs.Configs.{stands}
 use Rattle.frames.proofs.Driving.{turn, ended}
 use Rattle.machine.proofs.Machine.{steps_keep}
 use Rattle.engine.proofs.drive.drive.Goals as goal

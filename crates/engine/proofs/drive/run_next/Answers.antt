@@ -1,5 +1,5 @@
-use Rattle.std.proofs.Common.{◌≡◌, ◌<◌, length, sym, refl, ap, ◌∙◌, arith}
-use Rattle.stack.specs.Stacks.{held, room}
+use Rattle.std.proofs.Common.{sym, refl, ap, ◌∙◌, arith}
+use Rattle.stack.specs.Stacks.{held}
 use Rattle.meaning.specs.Syntax.Term.{literal}
 use Rattle.sealed.specs.Grammars.{grammar_of, expr_in, term_in}
 use Rattle.sealed.specs.Parts.{shown_by}

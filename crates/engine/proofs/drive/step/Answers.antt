@@ -1,6 +1,6 @@
-use Rattle.std.proofs.Common.{◌≡◌, ◌<◌, ◌≤◌, length, sym, refl, ap, ◌∙◌, arith}
+use Rattle.std.proofs.Common.{sym, refl, arith}
 use Rattle.sealed.proofs.Grammars.{few_terms}
-use Rattle.stack.specs.Stacks.{held, room}
+use Rattle.stack.specs.Stacks.{held}
 use Rattle.sealed.specs.Grammars.{grammar_of}
 use Rattle.meaning.specs.Meaning.{read_of}
 use Rattle.machine.specs.Work.{InBudget}

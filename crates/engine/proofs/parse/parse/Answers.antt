@@ -1,7 +1,7 @@
-use Rattle.std.proofs.Common.{◌≡◌, ◌<◌, true, length, sym, refl, ap, ◌∙◌, arith, le-ltb, lt-ltb}
+use Rattle.std.proofs.Common.{length, sym, ap, ◌∙◌, arith, le-ltb, lt-ltb}
 use Rattle.input.specs.Bytes.{in_order}
 use Rattle.sealed.specs.Grammars.{grammar_of}
-use Rattle.engine.specs.Parses.{parse_after, allowed}
+use Rattle.engine.specs.Parses.{parse_after}
 use Rattle.engine.proofs.Parsing.{ordered_parts, allowed_budget}
 use Rattle.engine.proofs.parse.parse.Goals as goal
 

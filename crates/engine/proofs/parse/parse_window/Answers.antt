@@ -1,4 +1,4 @@
-use Rattle.std.proofs.Common.{◌≡◌, ◌+◌, ◌≤◌, length, replicate, sym, refl, ap, ◌∙◌, arith}
+use Rattle.std.proofs.Common.{◌+◌, ◌≤◌, length, replicate, ap, ◌∙◌, arith}
 use Rattle.input.specs.Bytes.{window_of}
 use Rattle.input.proofs.Windows.{window_length}
 use Rattle.meaning.specs.Meaning.{parse}

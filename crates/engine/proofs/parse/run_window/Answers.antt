@@ -1,4 +1,4 @@
-use Rattle.std.proofs.Common.{◌≡◌, sym, refl, ap, ◌∙◌}
+use Rattle.std.proofs.Common.{ap, ◌∙◌}
 use Rattle.input.specs.Bytes.{window_of}
 use Rattle.meaning.specs.Meaning.{parse}
 use Rattle.sealed.specs.Grammars.{grammar_of}

@@ -1,7 +1,6 @@
-use Rattle.std.proofs.Common.{◌≡◌, sym, refl, ap, ◌∙◌}
-use Rattle.stack.specs.Stacks.{held, room}
+use Rattle.std.proofs.Common.{◌∙◌}
+use Rattle.stack.specs.Stacks.{held}
 use Rattle.sealed.specs.Grammars.{grammar_of}
-use Rattle.meaning.specs.Meaning.{read_of}
 use Rattle.engine.proofs.Outcomes.{first_sound, first_budget, first_means}
 use Rattle.engine.proofs.run.run.Goals as goal
 

@@ -1,4 +1,4 @@
-use Rattle.std.proofs.Common.{◌<◌, length, arith}
+use Rattle.std.proofs.Common.{arith}
 use Rattle.frames.proofs.Beginning.{no_budget, no_frame, no_node, begins_rule, begins_reader}
 use Rattle.frames.specs.Configs.{Sound}
 use Rattle.steps.proofs.begin.begin.Goals as goal

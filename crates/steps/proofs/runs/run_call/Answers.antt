@@ -1,4 +1,4 @@
-use Rattle.std.proofs.Common.{◌≡◌, length, sym, refl, ap, ◌∙◌}
+use Rattle.std.proofs.Common.{length, refl, ap, ◌∙◌}
 use Rattle.stack.specs.Stacks.{held, room}
 use Rattle.evaluate.proofs.Pushing.{pushed_held, pushed_room}
 use Rattle.frames.proofs.Running.{call_none, call_begins}

@@ -1,4 +1,4 @@
-use Rattle.std.proofs.Common.{◌≡◌, ◌+◌, ◌-◌, ◌≤◌, length, sym, ◌∙◌, arith}
+use Rattle.std.proofs.Common.{sym, ◌∙◌, arith}
 use Rattle.frames.specs.Configs.{so_of}
 use Rattle.frames.proofs.Running.{ends_within, literal_none, literal_other, literal_differs, literal_goes}
 use Rattle.steps.proofs.runs.run_literal.Goals as goal

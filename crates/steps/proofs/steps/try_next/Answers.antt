@@ -1,4 +1,4 @@
-use Rattle.std.proofs.Common.{◌<◌, [], length, get_or, refl, arith}
+use Rattle.std.proofs.Common.{◌<◌, [], get_or, refl, arith}
 use Rattle.sealed.specs.Grammars.{grammar_of}
 use Rattle.sealed.proofs.Grammars.{few_alternatives}
 use Rattle.frames.proofs.Trying.{no_more, one_more, terms_fit, place_fits}

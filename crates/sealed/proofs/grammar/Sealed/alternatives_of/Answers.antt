@@ -1,4 +1,4 @@
-use Rattle.std.proofs.Common.{◌≡◌, map, vec_items, sym, refl, ap, ◌∙◌}
+use Rattle.std.proofs.Common.{map, ap, ◌∙◌}
 use Rattle.sealed.specs.Parts.{part, item_at}
 use Rattle.sealed.proofs.Grammars.{branch, rule_some, rule_none}
 use Rattle.sealed.proofs.grammar.Sealed.alternatives_of.Goals as goal

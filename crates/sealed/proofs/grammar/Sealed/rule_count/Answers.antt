@@ -1,6 +1,4 @@
-use Rattle.std.proofs.Common.{◌≡◌, length, vec_items, sym, ◌∙◌, arith}
-use lib.ListN.{length-map}
-use Rattle.sealed.specs.Grammars.{grammar_of}
+use Rattle.std.proofs.Common.{arith}
 use Rattle.sealed.proofs.Grammars.{rules_counted}
 use Rattle.sealed.proofs.grammar.Sealed.rule_count.Goals as goal
 

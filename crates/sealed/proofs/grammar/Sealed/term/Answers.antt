@@ -1,4 +1,4 @@
-use Rattle.std.proofs.Common.{◌≡◌, sym, refl, ap, ◌∙◌}
+use Rattle.std.proofs.Common.{ap, ◌∙◌}
 use Rattle.sealed.specs.Parts.{part, shown_by, item_at}
 use Rattle.sealed.proofs.Grammars.{term_none, term_some}
 use Rattle.sealed.proofs.grammar.Sealed.term.Goals as goal

@@ -1,4 +1,4 @@
-use Rattle.std.proofs.Common.{◌≡◌, length, sym, refl, ap, ◌∙◌}
+use Rattle.std.proofs.Common.{length, ap, ◌∙◌}
 use Rattle.sealed.specs.Parts.{part}
 use Rattle.sealed.proofs.Grammars.{count_none, count_some}
 use Rattle.sealed.proofs.grammar.Sealed.term_count.Goals as goal
