@@ -1,6 +1,6 @@
-use Rattle.std.proofs.Common.{◌≡◌, false, eqb, sym, refl, ap, ◌∙◌, arith}
+use Rattle.std.proofs.Common.{◌≡◌, false, eqb, sym, refl, ◌∙◌, arith}
 use Rattle.std.proofs.lemmas.Bool.Decides.{nat_tests}
-use Rattle.token.specs.Classes.{separator, letter, digit, byte_class, mark_class}
+use Rattle.token.specs.Classes.{separator, letter, digit}
 use Rattle.token.proofs.byte_class.Goals as goal
 
 pub returns-in_default : goal.returns-in_default

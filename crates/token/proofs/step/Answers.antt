@@ -1,7 +1,5 @@
-use Rattle.std.proofs.Common.{◌≡◌, ◌+◌, ◌-◌, ◌*◌, ◌^◌, ◌<◌, ◌≤◌, true, false, length, drop, sym, refl, ap, ◌∙◌, subst, arith, length-drop, length-take, rules}
-use Rattle.std.proofs.lemmas.Bool.Decides.{nat_tests}
-use Rattle.token.specs.declared.Class.TheVariants as class
-use Rattle.token.specs.Tokens.{in_name, in_number, in_text, digit_in, cons, lexed, busy, Standing, width_of, lexeme, Sized, part}
+use Rattle.std.proofs.Common.{◌≡◌, ◌+◌, ◌*◌, ◌^◌, ◌<◌, ◌≤◌, true, false, length, drop, sym, refl, ap, ◌∙◌, subst, arith, length-drop, length-take, rules}
+use Rattle.token.specs.Tokens.{in_name, in_number, in_text, cons, lexed, Standing, Sized, part}
 use Rattle.token.proofs.Laws.{width_some, word_short, allowed_sized}
 use Rattle.token.proofs.Turns.{begun, starts, inside, ended, spaced, name_opens, number_opens, text_opens, marked, operated, wide_inside, no_token, name_goes_on, name_ends, name_long, number_goes_on, number_ends, number_long, text_goes_on, text_unended, text_ends}
 use Rattle.token.proofs.step.Goals as goal
