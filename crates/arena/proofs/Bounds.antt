@@ -1,5 +1,5 @@
 -- Laws of lists that stop growing at a bound.
-use Rattle.std.proofs.Common.{◌≡◌, ℕ, zero, suc, ◌+◌, ◌-◌, ◌<◌, ◌≤◌, min, List, [], ◌∷◌, ◌++◌, map, length, take, sym, refl, ap, ◌∙◌, subst, append_assoc, append-nil, arith, length-append, length-take}
+use Rattle.std.proofs.Common.{◌≡◌, ℕ, zero, suc, ◌+◌, ◌-◌, ◌<◌, ◌≤◌, min, List, [], ◌∷◌, ◌++◌, map, length, take, sym, refl, ap, ◌∙◌, append_assoc, append-nil, arith, length-append, length-take}
 use lib.Seq.{take-append_seam}
 use Rattle.std.proofs.lemmas.List.{take_all, map-append, length-map}
 use Rattle.arena.specs.Bounded.{upto}

@@ -1,5 +1,6 @@
 // The code of expressions: parts and operators in the order of their evaluation.
 #![tactic(auto)]
+
 ghost use Rattle.std.specs.Prelude.{◌≡◌, List, [], ◌∷◌};
 ghost use Rattle.arena.specs.Bounded.{upto};
 ghost use Rattle.code.specs.Pieces.{piece, codes};

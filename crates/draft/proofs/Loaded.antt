@@ -1,5 +1,5 @@
 -- What the tables are after a text was read, or refused.
-use Rattle.std.proofs.Common.{◌≡◌, ℕ, zero, suc, ◌+◌, ◌-◌, ◌<◌, ◌≤◌, min, Bool, true, false, cond, ◌&&◌, ltb, leb, List, [], ◌∷◌, ◌++◌, map, length, take, Some, None, Ok, Err, sym, refl, ap, ◌∙◌, subst, arith}
+use Rattle.std.proofs.Common.{◌≡◌, ℕ, zero, suc, ◌+◌, ◌<◌, ◌≤◌, Bool, true, false, cond, ltb, leb, List, [], ◌∷◌, ◌++◌, map, length, take, Some, None, Ok, Err, sym, refl, ap, ◌∙◌, subst, arith}
 use lib.Seq.{take-append_seam}
 use Rattle.std.proofs.lemmas.Bool.Decides.{nat_tests}
 use Rattle.expr.specs.Reading.{Read, ok, form, deep}
@@ -17,7 +17,7 @@ use Rattle.draft.specs.declared.store.Draft.{Draft}
 use Rattle.draft.specs.Limits.{Counts, plus, counts, few_enough}
 use Rattle.draft.specs.Shown.{rules_of}
 use Rattle.draft.specs.Cutting.{lengths_of, sizes_of, cut_to}
-use Rattle.draft.specs.Loading.{Answer, accepted, refused, by_form, answer, Whole, Taken}
+use Rattle.draft.specs.Loading.{accepted, refused, by_form, answer, Whole, Taken}
 use Rattle.draft.proofs.Shows.{Sound, Fits, rules_show}
 use Rattle.draft.proofs.Sizes.{Sized, By, rules_sized, counts_both}
 

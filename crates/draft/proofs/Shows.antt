@@ -1,5 +1,5 @@
 -- What the tables show after a term, an alternative, a rule was added: what they showed, and then the tree that was read.
-use Rattle.std.proofs.Common.{◌≡◌, ℕ, zero, suc, ◌+◌, ◌-◌, ◌<◌, ◌≤◌, max, List, [], ◌∷◌, ◌++◌, map, length, take, sym, refl, ap, ◌∙◌, subst, append_assoc, append-nil, arith, length-append}
+use Rattle.std.proofs.Common.{◌≡◌, ℕ, ◌-◌, ◌<◌, ◌≤◌, List, [], ◌∷◌, ◌++◌, map, length, take, sym, refl, ap, ◌∙◌, subst, append_assoc, append-nil, arith, length-append}
 use Rattle.std.proofs.lemmas.List.{length-map, map-append}
 use Rattle.arena.specs.Bounded.{upto}
 use Rattle.arena.proofs.Bounds.{whole}
@@ -7,7 +7,6 @@ use Rattle.code.specs.Pieces.{Piece}
 use Rattle.code.specs.Pieces as piece
 use Rattle.expr.specs.Trees.{Tree, encode}
 use Rattle.expr.specs.Trees as tree
-use Rattle.term.specs.declared.arenas.Span.{Span}
 use Rattle.term.specs.Form.{TermTree}
 use Rattle.term.specs.Form as term
 use Rattle.term.specs.Tables.{Tables, Entry, Head, Front, Kept, between, code_after, bytes_after, span_of, ends_of, with_term, emit_term}

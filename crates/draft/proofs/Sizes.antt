@@ -1,12 +1,12 @@
 -- How many items stand in the tables after a term, an alternative, a rule was added.
-use Rattle.std.proofs.Common.{◌≡◌, ℕ, ◌+◌, ◌-◌, ◌<◌, ◌≤◌, min, List, [], ◌∷◌, ◌++◌, length, sym, refl, ap, ◌∙◌, subst, arith}
+use Rattle.std.proofs.Common.{◌≡◌, ℕ, ◌+◌, ◌-◌, min, List, [], ◌∷◌, ◌++◌, length, ap, ◌∙◌, arith}
 use Rattle.arena.proofs.Bounds.{size}
 use Rattle.expr.specs.Trees.{encode}
 use Rattle.term.specs.Form.{TermTree}
 use Rattle.term.specs.Form as term
 use Rattle.term.specs.Tables.{Tables, code_after, emit_term}
 use Rattle.rule.specs.Form.{RuleTree}
-use Rattle.rule.specs.Emission.{emit_all, emit_alternative, emit_rule, with_alternative, with_rule}
+use Rattle.rule.specs.Emission.{emit_all, emit_alternative, emit_rule}
 use Rattle.draft.specs.Limits.{Counts, none, plus, total, count_term, count_alternative, count_rule, counts}
 
 -- k more items, as far as n go

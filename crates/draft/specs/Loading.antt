@@ -1,5 +1,5 @@
 -- What becomes of a text that is added to a draft, names apart.
-use Rattle.std.specs.Prelude.{◌≡◌, ℕ, ◌≤◌, cond, List, [], ◌∷◌, ◌++◌, length, Some, None, Ok, Err, Option, Result, nat_lt}
+use Rattle.std.specs.Prelude.{◌≡◌, ℕ, ◌≤◌, cond, List, ◌++◌, length, Some, None, Ok, Err, Option, Result, nat_lt}
 use Rattle.token.specs.Tokens.{tokens_at, bad_token}
 use Rattle.expr.specs.Reading.{Read, ok, form, deep}
 use Rattle.term.specs.Tables.{Tables}

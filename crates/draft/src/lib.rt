@@ -1,5 +1,6 @@
 // A draft of a grammar: rules by name, as texts wrote them.
 #![tactic(auto)]
+
 mod load;
 mod store;
 

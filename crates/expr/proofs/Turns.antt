@@ -1,5 +1,5 @@
 -- One turn of the loop over the items of a chain, what a bracket opens, and what is appended.
-use Rattle.std.proofs.Common.{◌≡◌, ℕ, zero, suc, ◌-◌, ◌<◌, ◌≤◌, List, [], ◌∷◌, ◌++◌, length, take, Some, None, Ok, Err, Result, sym, refl, ap, ◌∙◌, subst, append_assoc, append-nil, arith}
+use Rattle.std.proofs.Common.{◌≡◌, ℕ, zero, suc, ◌-◌, ◌<◌, ◌≤◌, List, [], ◌∷◌, ◌++◌, length, take, Some, None, Ok, Err, sym, refl, ap, ◌∙◌, subst, append_assoc, append-nil, arith}
 use Rattle.token.specs.declared.Mark.TheVariants.{Open}
 use Rattle.token.specs.declared.Op.{Op}
 use Rattle.token.specs.Tokens.{Lexeme, Tok, tokens_at}

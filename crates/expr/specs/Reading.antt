@@ -3,7 +3,6 @@ use Rattle.std.specs.Prelude.{◌≡◌, ℕ, zero, suc, Bool, true, false, cond
 use Rattle.token.specs.declared.Mark.TheVariants as mark
 use Rattle.token.specs.declared.Op.{Op}
 use Rattle.token.specs.declared.Op.TheVariants as op
-use Rattle.token.specs.declared.Placed.{Placed}
 use Rattle.token.specs.Tokens.{Lexeme, Tok, tokens_at, same_mark, is_mark}
 use Rattle.token.specs.Tokens as lexeme
 use Rattle.arena.specs.Bounded.{upto}

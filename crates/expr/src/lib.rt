@@ -1,5 +1,6 @@
 // Expressions of a grammar text: read token by token, and written as code.
 #![tactic(auto)]
+
 ghost use Rattle.std.specs.Prelude.{◌≡◌, ◌<◌, length, IfSome, IfOk};
 ghost use Rattle.token.specs.Tokens.{lexeme, tokens_at};
 ghost use Rattle.code.specs.Pieces.{codes};

@@ -1,9 +1,9 @@
 -- How the tables grow by an alternative and by a rule.
-use Rattle.std.proofs.Common.{◌≡◌, ℕ, ◌<◌, Bool, List, [], ◌∷◌, map, length, IfOk, Ok, Err, Result, sym, refl, ap, ◌∙◌, subst, arith}
+use Rattle.std.proofs.Common.{◌≡◌, ℕ, ◌<◌, Bool, List, [], ◌∷◌, map, IfOk, Ok, Err, Result, sym, ap, ◌∙◌, subst, arith}
 use Rattle.token.specs.declared.Mark.TheVariants.{Colon}
 use Rattle.token.specs.Tokens.{Tok, tokens_at}
 use Rattle.expr.specs.declared.Refusal.{Refusal}
-use Rattle.expr.specs.Reading.{Read, ok, and_then, Refuses}
+use Rattle.expr.specs.Reading.{ok, and_then, Refuses}
 use Rattle.expr.proofs.Turns.{refused_too}
 use Rattle.arena.specs.Bounded.{upto}
 use Rattle.arena.proofs.Bounds.{seen}

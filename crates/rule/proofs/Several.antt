@@ -1,5 +1,5 @@
 -- A loop that reads one item after another.
-use Rattle.std.proofs.Common.{◌≡◌, ℕ, zero, suc, ◌<◌, ◌≤◌, Bool, true, false, cond, List, [], ◌∷◌, ◌++◌, length, Ok, Err, sym, refl, ap, ◌∙◌, subst, append_assoc, append-nil, arith}
+use Rattle.std.proofs.Common.{◌≡◌, ℕ, zero, suc, ◌<◌, ◌≤◌, Bool, true, false, cond, List, [], ◌∷◌, ◌++◌, length, Ok, Err, sym, refl, ap, ◌∙◌, subst, append_assoc, arith}
 use Rattle.token.specs.Tokens.{Tok, tokens_at}
 use Rattle.expr.specs.declared.Refusal.{Refusal}
 use Rattle.expr.specs.Reading.{Read, ok, form, deep, and_then, Refuses}

@@ -1,5 +1,6 @@
 // Alternatives and rules of a grammar text, read token by token into arenas.
 #![tactic(auto)]
+
 ghost use Rattle.std.specs.Prelude.{◌≡◌, ◌<◌, length, IfOk};
 ghost use Rattle.token.specs.Tokens.{tokens_at};
 ghost use Rattle.term.specs.Reading.{Adds};

@@ -1,5 +1,5 @@
 -- What is decoded so far, and what is left.
-use Rattle.std.proofs.Common.{◌≡◌, ℕ, zero, suc, ◌+◌, ◌-◌, ◌*◌, ◌<◌, ◌≤◌, Bool, true, false, eqb, List, [], ◌∷◌, ◌++◌, length, get_or, take, drop, Some, None, Option, sym, refl, ap, ◌∙◌, subst, append_assoc, append-nil, arith}
+use Rattle.std.proofs.Common.{◌≡◌, ℕ, ◌+◌, ◌-◌, ◌<◌, ◌≤◌, true, false, eqb, ◌&&◌, ◌==◌, List, [], ◌∷◌, length, get_or, take, drop, Some, None, Option, sym, refl, ap, ◌∙◌, arith}
 use Rattle.std.proofs.lemmas.List.{take_all}
 use Rattle.std.proofs.lemmas.Bool.Decides.{nat_tests}
 use Rattle.arena.specs.Bounded.{upto}
@@ -26,6 +26,20 @@ itself_front (a ∷ b ∷ c ∷ d ∷ bs) h p =
     let apart : eqb a 0x5C ≡ false = grind (arith, nat_tests) in
     let rest = take_all (length (a ∷ b ∷ c ∷ d ∷ bs) - 1) (b ∷ c ∷ d ∷ bs) (omega arith) in
     rw (p, apart, rest) refl
+
+none_after_none : (o : Option (List ℕ)) → consed None o ≡ None
+none_after_none (Some vs) = refl
+none_after_none None = refl
+
+-- a front that neither stands for itself nor begins an escape
+pub refused_front : (bs : List ℕ) → 1 ≤ length bs → plain (get_or bs 0 0) ≡ false → (4 ≤ length bs → get_or bs 0 0 ≡ 0x5C → get_or bs 1 0 ≡ 0x78 → ⊥) → decode bs ≡ None
+refused_front [] h p q = absurd (omega arith)
+refused_front (a ∷ []) h p q = rw p refl
+refused_front (a ∷ b ∷ []) h p q = rw p (none_after_none _)
+refused_front (a ∷ b ∷ c ∷ []) h p q = rw p (none_after_none _)
+refused_front (a ∷ b ∷ c ∷ d ∷ bs) h p q =
+    let apart : (a == 0x5C && b == 0x78) ≡ false = grind (arith, nat_tests) in
+    rw (p, apart) (none_after_none _)
 
 -- ---- the length alone
 abbrev pub counted : ℕ → Option (List ℕ) → Option ℕ

@@ -1,5 +1,6 @@
 // The bytes that a string of a grammar text stands for.
 #![tactic(auto)]
+
 ghost use Rattle.std.specs.Prelude.{◌≡◌};
 ghost use Rattle.arena.specs.Bounded.{stored, upto};
 ghost use Rattle.strings.specs.Decoding.{hex_value, decode, decoded_length, bytes_of, First};

@@ -1,7 +1,6 @@
 -- How the tables grow by one term.
-use Rattle.std.proofs.Common.{◌≡◌, ℕ, ◌-◌, ◌<◌, List, [], ◌∷◌, ◌++◌, map, length, take, IfOk, Ok, Err, Result, sym, refl, ap, ◌∙◌, subst, append_assoc, append-nil, arith}
-use Rattle.arena.specs.declared.store.Arena.{Arena}
-use Rattle.arena.specs.Bounded.{stored, upto}
+use Rattle.std.proofs.Common.{◌≡◌, ℕ, ◌-◌, ◌<◌, List, [], ◌∷◌, ◌++◌, map, length, take, IfOk, Ok, Err, Result, sym, refl, ap, ◌∙◌, append_assoc, append-nil, arith}
+use Rattle.arena.specs.Bounded.{upto}
 use Rattle.arena.proofs.Bounds.{seen}
 use Rattle.code.specs.Pieces.{Piece}
 use Rattle.expr.specs.Trees.{Tree}
@@ -10,7 +9,7 @@ use Rattle.term.specs.declared.arenas.Span.{Span}
 use Rattle.term.specs.declared.arenas.Term.{Term}
 use Rattle.term.specs.Form.{TermTree}
 use Rattle.term.specs.Form as tree
-use Rattle.term.specs.Tables.{Tables, Entry, entry, Head, Kept, Front, with_term, code_after, bytes_after, emit_term}
+use Rattle.term.specs.Tables.{Tables, Entry, entry, Head, Kept, Front, code_after, emit_term}
 
 -- ---- fronts
 pub front_same : {X : Type 0} (xs : List X) → Front xs xs

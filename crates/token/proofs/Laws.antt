@@ -1,5 +1,5 @@
 -- What one more byte does to an open token.
-use Rattle.std.proofs.Common.{◌≡◌, ℕ, zero, suc, ◌+◌, ◌-◌, ◌*◌, ◌^◌, ◌<◌, ◌≤◌, Bool, true, false, cond, ◌&&◌, eqb, ltb, leb, List, [], ◌∷◌, ◌++◌, length, take, drop, Some, None, codes, Option, sym, refl, ap, ◌∙◌, subst, append_assoc, append-nil, arith, length-append, length-drop}
+use Rattle.std.proofs.Common.{◌≡◌, ℕ, zero, suc, ◌+◌, ◌^◌, ◌<◌, ◌≤◌, Bool, true, false, cond, ◌&&◌, eqb, ltb, leb, List, [], ◌∷◌, ◌++◌, length, take, drop, Some, None, codes, Option, sym, refl, ap, ◌∙◌, append_assoc, append-nil, arith, length-drop}
 use Rattle.std.specs.Str.{bytes_eq}
 use Rattle.std.proofs.lemmas.Bool.Decides.{nat_tests}
 use Rattle.strings.specs.Decoding.{decode, decoded_length, or_empty, bytes_of}
@@ -8,7 +8,7 @@ use Rattle.token.specs.declared.Class.{Class}
 use Rattle.token.specs.declared.Class.TheVariants as class
 use Rattle.token.specs.declared.Op.{Op}
 use Rattle.token.specs.declared.Op.TheVariants as op
-use Rattle.token.specs.Tokens.{Lexed, done, refused, cons, text, number, eoi, guard, name, Sized, few_bytes, front, back, in_name, in_number, in_text, word_of, digit_in, value, allowed_body, Rest, name_end, number_end, text_end, run, name_from, number_from, text_from, mark, operator, name_byte, number_byte, text_byte, width_of, start, lex, lexed}
+use Rattle.token.specs.Tokens.{refused, cons, text, number, eoi, guard, name, Sized, few_bytes, front, back, word_of, value, allowed_body, Rest, text_end, run, mark, operator, name_byte, number_byte, text_byte, width_of, start, lex, lexed}
 
 -- << and < differ in no test that treats all operators alike
 pub same_class : {X : Type 0} (t : Class → X) → t (class.Operator op.Shift) ≡ t (class.Operator op.Below) → (b : ℕ) (bs : List ℕ) → t (class_of (b ∷ bs)) ≡ t (byte_class b)

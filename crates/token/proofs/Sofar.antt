@@ -1,5 +1,5 @@
 -- Where the token reader stands.
-use Rattle.std.proofs.Common.{◌≡◌, ℕ, zero, suc, ◌+◌, ◌<◌, ◌≤◌, List, [], ◌∷◌, length, drop, sym, refl, ap, ◌∙◌, subst, arith, drop_of_length-le}
+use Rattle.std.proofs.Common.{◌≡◌, ℕ, ◌<◌, ◌≤◌, List, [], ◌∷◌, length, drop, refl, ap, arith, drop_of_length-le}
 use Rattle.token.specs.declared.Found.{Found}
 use Rattle.token.specs.declared.Placed.{Placed}
 use Rattle.token.specs.declared.State.{State}

@@ -1,5 +1,5 @@
 -- What each arm of `step` does.
-use Rattle.std.proofs.Common.{◌≡◌, ℕ, ◌+◌, ◌-◌, ◌*◌, ◌^◌, ◌<◌, ◌≤◌, Bool, true, false, cond, eqb, ltb, leb, List, [], ◌∷◌, ◌++◌, length, take, drop, sym, refl, ap, ◌∙◌, subst, arith, length-append, length-drop, length-take, take-add}
+use Rattle.std.proofs.Common.{◌≡◌, ℕ, ◌+◌, ◌-◌, ◌*◌, ◌^◌, ◌<◌, ◌≤◌, Bool, true, false, cond, eqb, ltb, leb, List, [], ◌∷◌, ◌++◌, length, take, drop, sym, refl, ap, ◌∙◌, arith, length-append, length-drop, length-take, take-add}
 use Rattle.std.proofs.lemmas.List.{take_all, drop-drop}
 use Rattle.std.proofs.lemmas.Bool.Decides.{nat_tests}
 use Rattle.strings.specs.Decoding.{bytes_of}
@@ -12,7 +12,7 @@ use Rattle.token.specs.declared.Op.{Op}
 use Rattle.token.specs.declared.Op.TheVariants as op
 use Rattle.token.specs.declared.State.{State}
 use Rattle.token.specs.declared.State.TheVariants as state
-use Rattle.token.specs.Tokens.{Lexed, done, refused, cons, text, number, mark, operator, in_name, in_number, in_text, name_byte, number_byte, text_byte, front, word_of, digit_in, value, allowed_body, width_of, Rest, name_end, number_end, text_end, run, name_from, number_from, text_from, start, lexed, part, resumed}
+use Rattle.token.specs.Tokens.{done, refused, cons, text, number, mark, operator, in_name, in_number, in_text, name_byte, number_byte, front, word_of, digit_in, value, allowed_body, width_of, name_end, number_end, text_end, name_from, number_from, text_from, start, lexed, part, resumed}
 use Rattle.token.proofs.Laws.{same_class, grows, stops, unfolds}
 
 abbrev pub begun : Class → Bool

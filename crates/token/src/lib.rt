@@ -1,5 +1,6 @@
 // The tokens of a grammar text, each a part of the text with its place.
 #![tactic(auto)]
+
 ghost use Rattle.std.specs.Prelude.{◌≡◌, ◌≤◌, length, drop};
 ghost use Rattle.token.specs.Classes.{mark_class, byte_class, class_of};
 ghost use Rattle.token.specs.Tokens.{lexeme, width_of, word_of, allowed_body, Standing, resumed, after, Moves, lexed, found, Onward, NextIs, bad_token};

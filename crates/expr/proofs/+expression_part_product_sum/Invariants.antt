@@ -1,4 +1,4 @@
-use Rattle.std.proofs.Common.{ℕ, ◌+◌, ◌*◌, ◌<◌, length}
+use Rattle.std.proofs.Common.{◌+◌, ◌*◌, ◌<◌, length}
 use Rattle.token.specs.Tokens.{tokens_at}
 use Rattle.code.specs.Pieces.{codes}
 use Rattle.expr.specs.declared.Level.TheVariants.{Sum, Product}

@@ -1,11 +1,9 @@
-use Rattle.std.proofs.Common.{◌≡◌, [], sym, refl, ap, ◌∙◌, rules}
 use Rattle.arena.specs.Bounded.{stored}
-use Rattle.arena.proofs.Bounds.{by_none}
 use Rattle.strings.proofs.Rests.{not_allowed, begins, goes_on, all_there}
 use Rattle.strings.proofs.decode_into.Goals as goal
 
-pub returns-in-default : goal.returns-in-default
-returns-in-default c = not_allowed c.args.body.now (stored c.args.out.now) c.in-default.ensures
+pub returns-in_default : goal.returns-in_default
+returns-in_default c = not_allowed c.args.body.now (stored c.args.out.now) c.in_default.ensures
 
 pub loop-b-init : goal.loop-b-init
 loop-b-init c = begins c.args.body.now (stored c.args.out.now) _ c.in-Some.ensures
@@ -16,4 +14,4 @@ loop-b-preserved c =
     goes_on c.args.body.now c.loop-b.rest.now c.in-Some-first.more.now (stored c.loop-b.out) _ (stored c.args.out.now) c.in-Some-first.b c.loop-b.invariant one.0 c.put.ensures
 
 pub returns : goal.returns
-returns c = all_there c.args.body.now c.loop-b.rest.now (stored c.loop-b.out) (stored c.args.out.now) c.loop-b.invariant c.in-default-first.ensures
+returns c = all_there c.args.body.now c.loop-b.rest.now (stored c.loop-b.out) (stored c.args.out.now) c.loop-b.invariant c.in_default-first.ensures

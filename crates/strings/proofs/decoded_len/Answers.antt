@@ -1,5 +1,5 @@
-use Rattle.std.proofs.Common.{◌≡◌, sym, refl, ap, ◌∙◌, arith, rules}
-use Rattle.strings.proofs.Rests.{counted, counted_none, counted_more, counted_all}
+use Rattle.std.proofs.Common.{ap, ◌∙◌, arith}
+use Rattle.strings.proofs.Rests.{counted, counted_none, counted_more}
 use Rattle.strings.proofs.decoded_len.Goals as goal
 
 pub loop-rest-init : goal.loop-rest-init

@@ -1,4 +1,4 @@
-use Rattle.std.proofs.Common.{◌≡◌, [], ◌∷◌, length, sym, refl, ap, ◌∙◌, subst, arith, rules}
+use Rattle.std.proofs.Common.{refl, ap, arith, rules}
 use Rattle.std.proofs.lemmas.Result.{err_from_is_err_and}
 use Rattle.arena.specs.Bounded.{stored}
 use Rattle.code.specs.Names.{letters}
@@ -12,27 +12,27 @@ use Rattle.term.specs.Tables.{tables, emit_term, between, bytes_after, span_of, 
 use Rattle.term.proofs.Puts.{kept_code, put_entry, same_tables}
 use Rattle.term.proofs.attribute.Goals as goal
 
-pub returns-in-err-span : goal.returns-in-err-span
-returns-in-err-span c =
-    let p = err_from_is_err_and c.from-residual-in-err-span.result c.from-residual-in-err-span.ensures.1 in
-    rw (p.1, p.2) record { told = (search rules, kept_code (tables c.args.out.now) (codes c.value.new.out) c.in-err-span.ensures.told.1); shorter = tt }
+pub returns-in_err-span : goal.returns-in_err-span
+returns-in_err-span c =
+    let p = err_from_is_err_and c.from_residual-in_err-span.result c.from_residual-in_err-span.ensures.1 in
+    rw (p.1, p.2) record { told = (search rules, kept_code (tables c.args.out.now) (codes c.value.new.out) c.in_err-span.ensures.told.1); shorter = tt }
 
-pub returns-in-err-rest-2 : goal.returns-in-err-rest-2
-returns-in-err-rest-2 c =
-    let p = err_from_is_err_and c.from-residual-in-err-rest-2.result c.from-residual-in-err-rest-2.ensures.1 in
-    let v = c.in-ok-span.ensures.told in
+pub returns-in_err-rest-2 : goal.returns-in_err-rest-2
+returns-in_err-rest-2 c =
+    let p = err_from_is_err_and c.from_residual-in_err-rest-2.result c.from_residual-in_err-rest-2.ensures.1 in
+    let v = c.in_ok-span.ensures.told in
     rw (p.1, p.2) record { told = (search rules, kept_code (tables c.args.out.now) (codes c.value.new.out) (grew_by (codes c.args.out.now.code) (codes c.value.new.out) (encode v.0) v.2)); shorter = tt }
 
 pub returns : goal.returns
 unfolding emit_term
 returns c =
     let out = c.args.out.now in
-    let v = c.in-ok-span.ensures in
+    let v = c.in_ok-span.ensures in
     let e = v.told.0 in
-    let w = letters c.in-ok-called.called in
-    let place = c.in-ok-called.place in
+    let w = letters c.in_ok-called.called in
+    let place = c.in_ok-called.place in
     let is = ap (entry.attribute place w) v.told.3 in
     record {
-      told = (tree.attribute place w e, search rules, same_tables (put_entry (stored out.terms) (stored c.put.new.self) (term.Attribute c.in-ok-called.called place c.in-ok-span.span) (entry.attribute place w (span_of (codes out.code) e)) c.put.ensures is) refl v.told.2);
-      shorter = omega (arith, c.in-ok-called.ensures.shorter, c.in-ok-rest.ensures.shorter, v.shorter, c.in-ok-rest-2.ensures.shorter);
+      told = (tree.attribute place w e, search rules, same_tables (put_entry (stored out.terms) (stored c.put.new.self) (term.Attribute c.in_ok-called.called place c.in_ok-span.span) (entry.attribute place w (span_of (codes out.code) e)) c.put.ensures is) refl v.told.2);
+      shorter = omega (arith, c.in_ok-called.ensures.shorter, c.in_ok-rest.ensures.shorter, v.shorter, c.in_ok-rest-2.ensures.shorter);
     }

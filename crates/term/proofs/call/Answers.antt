@@ -1,10 +1,8 @@
-use Rattle.std.proofs.Common.{◌≡◌, [], ◌∷◌, length, sym, refl, ap, ◌∙◌, subst, arith, rules}
+use Rattle.std.proofs.Common.{refl, ap, rules}
 use Rattle.std.proofs.lemmas.Result.{err_from_is_err_and}
 use Rattle.arena.specs.Bounded.{stored}
 use Rattle.code.specs.Names.{letters}
 use Rattle.code.specs.Pieces.{codes}
-use Rattle.expr.specs.Trees.{encode}
-use Rattle.expr.proofs.Turns.{grew_by}
 use Rattle.term.specs.declared.arenas.Term.TheVariants as term
 use Rattle.term.specs.Form as tree
 use Rattle.term.specs.Tables as entry
@@ -12,21 +10,21 @@ use Rattle.term.specs.Tables.{tables, emit_term, between, bytes_after, span_of, 
 use Rattle.term.proofs.Puts.{kept_code, put_entry, same_tables}
 use Rattle.term.proofs.call.Goals as goal
 
-pub returns-in-err-ends : goal.returns-in-err-ends
-returns-in-err-ends c =
-    let p = err_from_is_err_and c.from-residual.result c.from-residual.ensures.1 in
-    rw (p.1, p.2) record { told = (search rules, kept_code (tables c.args.out.now) (codes c.range.new.out) c.in-err-ends.ensures.told.1); shorter = tt }
+pub returns-in_err-ends : goal.returns-in_err-ends
+returns-in_err-ends c =
+    let p = err_from_is_err_and c.from_residual.result c.from_residual.ensures.1 in
+    rw (p.1, p.2) record { told = (search rules, kept_code (tables c.args.out.now) (codes c.range.new.out) c.in_err-ends.ensures.told.1); shorter = tt }
 
 pub returns : goal.returns
 unfolding emit_term
 returns c =
     let out = c.args.out.now in
-    let r = c.in-ok-ends.ensures in
+    let r = c.in_ok-ends.ensures in
     let a = r.told.0 in
     let b = r.told.1 in
     let w = letters c.args.called in
     let is = ap (entry.call w) r.told.4 in
     record {
-      told = (tree.call w a b, search rules, same_tables (put_entry (stored out.terms) (stored c.put.new.self) (term.Call c.args.called c.in-ok-ends.ends) (entry.call w (ends_of (codes out.code) a b)) c.put.ensures is) refl r.told.3);
+      told = (tree.call w a b, search rules, same_tables (put_entry (stored out.terms) (stored c.put.new.self) (term.Call c.args.called c.in_ok-ends.ends) (entry.call w (ends_of (codes out.code) a b)) c.put.ensures is) refl r.told.3);
       shorter = r.shorter;
     }

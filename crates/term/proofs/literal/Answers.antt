@@ -1,10 +1,7 @@
-use Rattle.std.proofs.Common.{◌≡◌, [], ◌∷◌, length, sym, refl, ap, ◌∙◌, subst, arith, rules}
+use Rattle.std.proofs.Common.{◌≡◌, length, ap, ◌∙◌, rules}
 use Rattle.std.proofs.lemmas.Result.{err_from_is_err_and}
 use Rattle.arena.specs.Bounded.{stored}
-use Rattle.code.specs.Names.{letters}
 use Rattle.code.specs.Pieces.{codes}
-use Rattle.expr.specs.Trees.{encode}
-use Rattle.expr.proofs.Turns.{grew_by}
 use Rattle.term.specs.declared.arenas.Term.TheVariants as term
 use Rattle.term.specs.Form as tree
 use Rattle.term.specs.Tables as entry
@@ -14,24 +11,24 @@ use Rattle.strings.specs.Decoding.{bytes_of}
 use Rattle.term.specs.declared.arenas.Span.{Span}
 use Rattle.term.proofs.literal.Goals as goal
 
-pub returns-in-err-ends : goal.returns-in-err-ends
-returns-in-err-ends c =
-    let p = err_from_is_err_and c.from-residual.result c.from-residual.ensures.1 in
-    rw (p.1, p.2) record { told = (search rules, kept_code (tables c.args.out.now) (codes c.range.new.out) c.in-err-ends.ensures.told.1); shorter = tt }
+pub returns-in_err-ends : goal.returns-in_err-ends
+returns-in_err-ends c =
+    let p = err_from_is_err_and c.from_residual.result c.from_residual.ensures.1 in
+    rw (p.1, p.2) record { told = (search rules, kept_code (tables c.args.out.now) (codes c.range.new.out) c.in_err-ends.ensures.told.1); shorter = tt }
 
 pub returns : goal.returns
 unfolding emit_term
 returns c =
     let out = c.args.out.now in
-    let r = c.in-ok-ends.ensures in
+    let r = c.in_ok-ends.ensures in
     let a = r.told.0 in
     let b = r.told.1 in
     let bs = bytes_of c.args.body.now in
     let before = stored out.bytes in
-    let decoded = c.decode-into.ensures in
+    let decoded = c.decode_into.ensures in
     let span : ◌≡◌ {A = Span} (record { from = c.len-from.result; to = c.len-to.result }) (between before (bytes_after before bs)) = cc (c.len-from.ensures, c.len-to.ensures ∙ ap length decoded) in
-    let is : entry.literal (record { from = c.len-from.result; to = c.len-to.result }) c.in-ok-ends.ends ≡ entry.literal (between before (bytes_after before bs)) (ends_of (codes out.code) a b) = cc (span, r.told.4) in
+    let is : entry.literal (record { from = c.len-from.result; to = c.len-to.result }) c.in_ok-ends.ends ≡ entry.literal (between before (bytes_after before bs)) (ends_of (codes out.code) a b) = cc (span, r.told.4) in
     record {
-      told = (tree.literal bs a b, search rules, same_tables (put_entry (stored out.terms) (stored c.put.new.self) (term.Literal (record { from = c.len-from.result; to = c.len-to.result }) c.in-ok-ends.ends) (entry.literal (between before (bytes_after before bs)) (ends_of (codes out.code) a b)) c.put.ensures is) decoded r.told.3);
+      told = (tree.literal bs a b, search rules, same_tables (put_entry (stored out.terms) (stored c.put.new.self) (term.Literal (record { from = c.len-from.result; to = c.len-to.result }) c.in_ok-ends.ends) (entry.literal (between before (bytes_after before bs)) (ends_of (codes out.code) a b)) c.put.ensures is) decoded r.told.3);
       shorter = r.shorter;
     }

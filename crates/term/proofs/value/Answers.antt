@@ -1,4 +1,4 @@
-use Rattle.std.proofs.Common.{◌≡◌, length, sym, refl, ap, ◌∙◌}
+use Rattle.std.proofs.Common.{◌≡◌, length, sym, ap, ◌∙◌}
 use Rattle.std.proofs.lemmas.List.{length-map}
 use Rattle.arena.specs.Bounded.{stored}
 use Rattle.code.specs.Pieces.{piece, codes}
@@ -8,7 +8,7 @@ use Rattle.term.proofs.value.Goals as goal
 
 pub returns : goal.returns
 returns c =
-    let read = c.in-ok-rest.ensures in
+    let read = c.in_ok-rest.ensures in
     let before = codes c.args.out.now in
     let from : c.len-from.result ≡ length before = c.len-from.ensures ∙ sym (length-map (stored c.args.out.now) piece) in
     let to : c.len-to.result ≡ length (codes c.expression.new.out) = c.len-to.ensures ∙ sym (length-map (stored c.expression.new.out) piece) in

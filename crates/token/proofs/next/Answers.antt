@@ -1,6 +1,5 @@
-use Rattle.std.proofs.Common.{◌≡◌, ◌⊎◌, ap, ◌∙◌, inl, inr, arith}
+use Rattle.std.proofs.Common.{ap, ◌∙◌, inl, inr, arith}
 use Rattle.token.specs.Tokens.{toks, found}
-use Rattle.token.specs.declared.Found.TheVariants as found_of
 use Rattle.token.proofs.Sofar.{past_end, toks_found, toks_token}
 use Rattle.token.proofs.next.Goals as goal
 

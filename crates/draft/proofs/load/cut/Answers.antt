@@ -1,4 +1,4 @@
-use Rattle.std.proofs.Common.{◌≡◌, map, ap, ◌∙◌}
+use Rattle.std.proofs.Common.{map, ap, ◌∙◌}
 use Rattle.arena.specs.Bounded.{stored}
 use Rattle.code.specs.Pieces.{piece}
 use Rattle.term.specs.Tables.{head, entry}

@@ -1,4 +1,4 @@
-use Rattle.std.proofs.Common.{◌≡◌, true, false, length, Err, sym, refl, ap, ◌∙◌, subst, rules}
+use Rattle.std.proofs.Common.{◌≡◌, true, false, length, Err, sym, subst, rules}
 use Rattle.token.specs.Tokens.{tokens_at}
 use Rattle.expr.specs.Reading.{form, deep}
 use Rattle.term.specs.Tables.{tables}
@@ -14,13 +14,13 @@ use Rattle.draft.proofs.load.form.Goals as goal
 pub returns-then-fits : goal.returns-then-fits
 returns-then-fits c = λ whole.
     let told = c.in-Ok.ensures.told in
-    let yes : few_enough (sizes_of (tables c.add-rules.new.out)) ≡ true = sym c.if-fits.ensures in
-    taken (tables c.args.out.now) (tables c.add-rules.new.out) told.0 whole told.2 yes _ _ told.1
+    let yes : few_enough (sizes_of (tables c.add_rules.new.out)) ≡ true = sym c.if-fits.ensures in
+    taken (tables c.args.out.now) (tables c.add_rules.new.out) told.0 whole told.2 yes _ _ told.1
 
 pub returns-else-fits : goal.returns-else-fits
 returns-else-fits c = λ whole.
     let T = tables c.args.out.now in
-    let U = tables c.add-rules.new.out in
+    let U = tables c.add_rules.new.out in
     let told = c.in-Ok.ensures.told in
     let no : few_enough (sizes_of U) ≡ false = sym c.if-fits.ensures in
     let back = restored T U (tables c.cut.new.arenas) c.measured-before.result (read_kept T U told.0 whole told.2) c.measured-before.ensures c.cut.ensures in
@@ -29,7 +29,7 @@ returns-else-fits c = λ whole.
 pub returns-in-Err-Form : goal.returns-in-Err-Form
 returns-in-Err-Form c = λ whole.
     let T = tables c.args.out.now in
-    let U = tables c.add-rules.new.out in
+    let U = tables c.add_rules.new.out in
     let want = rules_at (length c.args.text.now) (tokens_at c.args.text.now 0) in
     let told = c.in-Err-Form.ensures.told in
     let is : want ≡ form c.in-Err-Form.place = search rules in
@@ -39,7 +39,7 @@ returns-in-Err-Form c = λ whole.
 pub returns-in-Err-Deep : goal.returns-in-Err-Deep
 returns-in-Err-Deep c = λ whole.
     let T = tables c.args.out.now in
-    let U = tables c.add-rules.new.out in
+    let U = tables c.add_rules.new.out in
     let want = rules_at (length c.args.text.now) (tokens_at c.args.text.now 0) in
     let told = c.in-Err-Deep.ensures.told in
     let is : want ≡ deep c.in-Err-Deep.place = search rules in

@@ -6,8 +6,8 @@ use Rattle.draft.specs.Loading.{Taken}
 use Rattle.draft.proofs.Loaded.{refused_long, refused_token, by_its_form}
 use Rattle.draft.proofs.load.load.Goals as goal
 
-pub returns-then-text-gt-TEXT-LIMIT : goal.returns-then-text-gt-TEXT-LIMIT
-returns-then-text-gt-TEXT-LIMIT c = λ whole.
+pub returns-then-text-gt-TEXT_LIMIT : goal.returns-then-text-gt-TEXT_LIMIT
+returns-then-text-gt-TEXT_LIMIT c = λ whole.
     let long : ltb 65536 (length c.args.text.now) ≡ true = grind (arith, nat_tests) in
     refused_long (tables c.args.out.now) c.args.text.now whole long
 

@@ -1,13 +1,21 @@
-use Rattle.std.proofs.Common.{◌≡◌, ap}
-use Rattle.draft.specs.Loading.{Whole}
-use Rattle.draft.specs.Limits as limits
+use Rattle.std.proofs.Common.{ap}
 use Rattle.draft.proofs.Loaded.{whole_draft}
 use Rattle.draft.proofs.store.Draft.append.Goals as goal
 
-pub invariant-of-self : goal.invariant-of-self
-invariant-of-self c =
+pub invariant_of-self : goal.invariant_of-self
+invariant_of-self c =
     let w = (c.load.ensures (whole_draft c.args.self.now)).whole_after in
-    (w.code-in, (w.bytes-in, (w.terms-in, (w.alternatives-in, (ap (λ k. k.rules) w.counted, (ap (λ k. k.alternatives) w.counted, (ap (λ k. k.terms) w.counted, (ap (λ k. k.bytes) w.counted, (ap (λ k. k.parts) w.counted, tt)))))))))
+    record {
+      expressions = w.code_in;
+      literals = w.bytes_in;
+      alternatives = w.terms_in;
+      rules = w.alternatives_in;
+      rulecount = ap (λ k. k.rules) w.counted;
+      branchcount = ap (λ k. k.alternatives) w.counted;
+      termcount = ap (λ k. k.terms) w.counted;
+      bytecount = ap (λ k. k.bytes) w.counted;
+      partcount = ap (λ k. k.parts) w.counted;
+    }
 
 pub returns : goal.returns
 returns c =
