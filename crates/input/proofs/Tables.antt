@@ -1,5 +1,5 @@
 -- The errata that a patch table holds.
-use Rattle.std.proofs.Common.{◌≡◌, ℕ, ◌+◌, ◌<◌, ◌≤◌, List, [], ◌∷◌, ◌++◌, map, length, get_or, take, set, sym, refl, ap, ◌∙◌, arith}
+use Rattle.std.proofs.Common.{◌≡◌, ℕ, ◌+◌, ◌<◌, ◌≤◌, List, [], ◌∷◌, ◌++◌, map, length, get_or, take, set, sym, ap, ◌∙◌, arith}
 use Rattle.std.proofs.lemmas.List.{length-map, length-take, take_more_set, take_more, take-set, take-take, take-map, map_push}
 use Rattle.input.specs.Errata.{Erratum, erratum_of}
 use Rattle.input.specs.declared.patch.Patch.{Patch}

@@ -1,5 +1,5 @@
 -- Lists of bytes: their places, their windows, and what an input means.
-use Rattle.std.specs.Prelude.{ℕ, ◌-◌, ◌≤◌, Bool, true, false, cond, ◌&&◌, List, [], length, Some, None, Option, nat_le, nat_lt, slice_index, slice_range}
+use Rattle.std.specs.Prelude.{ℕ, ◌≤◌, Bool, true, false, cond, ◌&&◌, List, [], length, Some, None, Option, nat_le, nat_lt, slice_index, slice_range}
 use Rattle.std.proofs.Common.{arith, lit≤, length-take, length-drop}
 use Rattle.std.proofs.lemmas.Bool.{cond_both, leb-true}
 

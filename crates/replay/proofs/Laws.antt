@@ -1,13 +1,11 @@
 -- Laws over whole lists of calls.
-use Rattle.std.proofs.Common.{◌≡◌, ℕ, ◌+◌, ◌-◌, cond, List, [], ◌∷◌, ◌++◌, length, take, is_ok, Ok, Err, Result, sym, refl, ap, ◌∙◌, arith}
+use Rattle.std.proofs.Common.{◌≡◌, ℕ, ◌-◌, cond, List, [], ◌∷◌, ◌++◌, length, take, is_ok, refl, ap, ◌∙◌, arith}
 use Rattle.std.proofs.lemmas.List.{length-append, take_at}
-use Rattle.input.specs.Errata.{Erratum, patch_answer, patched, undone}
-use Rattle.input.specs.declared.refusal.Refusal.{Refusal}
-use Rattle.replay.specs.declared.Answer.{Answer}
+use Rattle.input.specs.Errata.{Erratum, undone}
 use Rattle.replay.specs.declared.Call.{Call}
 use Rattle.replay.specs.declared.Call.TheVariants.{Patch, Undo}
-use Rattle.replay.specs.Calls.{answered, errata_then, errata_from, answers_from, errata_after, answers_after}
-use Rattle.replay.specs.Laws.{More, CallByCall, UndoTakesBack}
+use Rattle.replay.specs.Calls.{answered, errata_then, errata_from, answers_from, errata_after}
+use Rattle.replay.specs.Laws.{CallByCall, UndoTakesBack}
 
 errata_++ : (n : ℕ) (es : List Erratum) (cs ds : List Call) → errata_from n es (cs ++ ds) ≡ errata_from n (errata_from n es cs) ds
 unfolding errata_from

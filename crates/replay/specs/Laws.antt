@@ -1,8 +1,7 @@
 -- Laws over whole lists of calls, for a list below of any length.
-use Rattle.std.specs.Prelude.{◌≡◌, ℕ, List, [], ◌∷◌, ◌++◌, Ok, Err, Result}
+use Rattle.std.specs.Prelude.{◌≡◌, ℕ, List, [], ◌∷◌, ◌++◌, Ok}
 use Rattle.std.specs.Borrow.{Bor}
 use Rattle.input.specs.Errata.{patch_answer}
-use Rattle.input.specs.declared.refusal.Refusal.{Refusal}
 use Rattle.replay.specs.declared.Call.{Call}
 use Rattle.replay.specs.declared.Call.TheVariants.{Patch, Undo}
 use Rattle.replay.specs.Calls.{answered, errata_then, errata_after, answers_after}

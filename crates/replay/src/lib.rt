@@ -1,5 +1,6 @@
 // A list of calls met by a new bench: what the bench then holds and shows, and how each call was answered.
 #![tactic(auto)]
+
 ghost use Rattle.std.specs.Prelude.{◌≡◌, length};
 ghost use Rattle.input.specs.Benches.{errata};
 ghost use Rattle.input.specs.Errata.{shows};

@@ -1,5 +1,6 @@
 // Bytes that a program holds, as an input: all of them as a slice, or one window of that slice.
 #![tactic(auto)]
+
 ghost use Rattle.std.specs.Prelude.{◌≡◌, ◌≤◌, length, Some, None};
 ghost use Rattle.input.specs.Bytes.{byte_at};
 ghost use Rattle.source.specs.Sources.{source_shown};

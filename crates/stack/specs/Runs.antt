@@ -1,5 +1,5 @@
 -- Lists of calls on a stack, and what they leave.
-use Rattle.std.specs.Prelude.{◌≡◌, ℕ, ◌+◌, ◌-◌, ◌<◌, List, [], ◌∷◌, length, drop, Ok, Err, Result}
+use Rattle.std.specs.Prelude.{◌≡◌, ℕ, ◌+◌, ◌-◌, ◌<◌, List, [], ◌∷◌, drop, Ok, Err, Result}
 use Rattle.stack.specs.declared.refusal.StackRefusal.{StackRefusal}
 use Rattle.stack.specs.declared.refusal.StackRefusal.TheVariants.{Empty}
 use Rattle.stack.specs.declared.runs.StackCall.{StackCall}

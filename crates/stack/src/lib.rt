@@ -4,6 +4,7 @@
 //     let mut numbers = Stack::new(&mut slots);
 //     numbers.push(7)?;
 #![tactic(auto)]
+
 ghost use Rattle.std.specs.Prelude.{◌≤◌, length};
 
 mod calls;

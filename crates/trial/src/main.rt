@@ -1,5 +1,6 @@
 // Runs a script of exercises from standard input, and prints what each command answered.
 #![tactic(auto)]
+
 mod session;
 mod show;
 

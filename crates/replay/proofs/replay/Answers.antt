@@ -1,8 +1,8 @@
-use Rattle.std.proofs.Common.{◌≡◌, length, get_or, sym, refl, ap, ◌∙◌}
+use Rattle.std.proofs.Common.{length, refl, ap, ◌∙◌}
 use Rattle.input.specs.Benches.{errata}
 use Rattle.input.specs.Errata.{shows}
 use Rattle.replay.specs.Calls.{errata_after, answers_after, written}
-use Rattle.replay.proofs.Replaying.{Going, begins, goes_on_written, goes_on_past, ends}
+use Rattle.replay.proofs.Replaying.{begins, goes_on_written, goes_on_past, ends}
 use Rattle.replay.proofs.replay.Goals as goal
 use Rattle.replay.proofs.replay.Goals.{then-i-answers, else-i-answers}
 

@@ -1,4 +1,4 @@
-use Rattle.std.proofs.Common.{◌≡◌, ◌+◌, true, false, eqb, ◌++◌, get_or, take, drop, sym, ap, ◌∙◌, append-nil, arith, rules}
+use Rattle.std.proofs.Common.{◌≡◌, ◌+◌, true, false, eqb, ◌++◌, get_or, take, sym, ap, ◌∙◌, append-nil, arith}
 use Rattle.std.proofs.lemmas.Bool.Decides.{nat_tests}
 use Rattle.script.proofs.Cutting.{from_on, until_at, after_at, until_on, after_on, until_end, after_end}
 use Rattle.script.proofs.piece.cut_at.Goals as goal

@@ -1,4 +1,4 @@
-use Rattle.std.proofs.Common.{◌≡◌, drop, sym, refl, ap, arith}
+use Rattle.std.proofs.Common.{drop, sym, refl, ap, arith}
 use Rattle.stack.specs.Stacks.{pop_answer, pop_number}
 use Rattle.stack.proofs.Held.{held_pop}
 use Rattle.stack.proofs.Stack.pop.Goals as goal
