@@ -1,4 +1,4 @@
-use Rattle.std.proofs.Common.{◌≡◌, ℕ, ◌-◌, ◌≤◌, List, length, take, Some, Option, sym, ap, ◌∙◌, arith}
+use Rattle.std.proofs.Common.{◌≡◌, ℕ, ◌-◌, List, length, take, Some, Option, sym, ap, ◌∙◌, arith}
 use Rattle.fields.specs.Fields.{Fields, read_on}
 use Rattle.fields.specs.declared.reading.Reading.{Reading}
 use Rattle.fields.proofs.OnInputs.{read_front}

@@ -1,4 +1,4 @@
-use Rattle.std.proofs.Common.{◌≡◌, ℕ, ◌<◌, cond, ltb, List, [], ◌∷◌, length, set, Ok, Err, Result, sym, refl, ap, ◌∙◌, arith, lit<, rules}
+use Rattle.std.proofs.Common.{◌≡◌, ◌<◌, cond, ltb, List, [], ◌∷◌, length, set, Ok, Err, Result, refl, ap, ◌∙◌, arith, rules}
 use Rattle.std.proofs.lemmas.Bool.Decides.{nat_tests}
 use Rattle.stack.specs.Stacks.{held, room, held_after_push, room_after_push, pop_answer}
 use Rattle.stack.specs.declared.refusal.StackRefusal.{StackRefusal}

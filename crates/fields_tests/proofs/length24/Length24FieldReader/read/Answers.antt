@@ -1,4 +1,4 @@
-use Rattle.std.proofs.Common.{◌≡◌, ℕ, ◌+◌, ◌-◌, ◌*◌, ◌<◌, ◌≤◌, List, [], ◌∷◌, length, get_or, take, drop, Some, sym, refl, ap, ◌∙◌, arith}
+use Rattle.std.proofs.Common.{◌≡◌, ℕ, ◌+◌, ◌-◌, ◌*◌, ◌<◌, ◌≤◌, List, [], ◌∷◌, length, get_or, take, drop, Some, ap, ◌∙◌, arith}
 use Rattle.fields.proofs.Bytewise.{window_front}
 use Rattle.input.specs.Bytes.{byte_at, window_of}
 use Rattle.input.proofs.Windows.{window_length}
@@ -33,9 +33,9 @@ pub returns : goal.returns
 returns g c =
     let bs = (g.I.Input.shown c.args.input.now).bytes in
     let n = window_length bs c.args.left c.args.right (omega arith) (omega arith) in
-    let a = c.in-ok-high.ensures in
-    let b = c.in-ok-middle.ensures in
-    let d = c.in-ok-low.ensures in
-    let f = front bs c.args.left c.args.right c.in-ok-high.high c.in-ok-middle.middle c.in-ok-low.low (omega arith) (omega arith) (omega arith) a b d in
+    let a = c.in_ok-high.ensures in
+    let b = c.in_ok-middle.ensures in
+    let d = c.in_ok-low.ensures in
+    let f = front bs c.args.left c.args.right c.in_ok-high.high c.in_ok-middle.middle c.in_ok-low.low (omega arith) (omega arith) (omega arith) a b d in
     let v : c.from.result * 65536 + c.from-2.result * 256 + c.from-3.result ≡ big_endian (take 3 (window_of bs c.args.left c.args.right)) = omega arith in
     grind (arith, nat_tests)
