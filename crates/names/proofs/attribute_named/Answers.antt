@@ -1,4 +1,4 @@
-use Rattle.std.proofs.Common.{◌≡◌, ◌+◌, ◌≤◌, ◌||◌, map, length, drop, sym, ap, ◌∙◌, arith}
+use Rattle.std.proofs.Common.{◌+◌, ◌≤◌, ◌||◌, map, length, drop, sym, ap, ◌∙◌, arith}
 use Rattle.term.specs.Tables.{entry}
 use Rattle.names.specs.Names.{any, attribute_is}
 use Rattle.names.proofs.Looks.{looked, nowhere}
