@@ -1,9 +1,8 @@
 -- Expressions are read as the grammar writes them.
-use Rattle.std.proofs.Common.{◌≡◌, ℕ, zero, suc, ◌<◌, ◌≤◌, Bool, true, false, cond, ◌&&◌, List, [], ◌∷◌, ◌++◌, length, Some, None, Option, sym, refl, ap, ◌∙◌, subst, append_assoc, append-nil, arith, length-append}
+use Rattle.std.proofs.Common.{◌≡◌, ℕ, zero, suc, ◌≤◌, Bool, true, false, cond, ◌&&◌, List, [], ◌∷◌, ◌++◌, length, Some, None, Option, sym, refl, ap, ◌∙◌, subst, append_assoc, append-nil, arith}
 use Rattle.token.specs.declared.Mark.{Mark}
 use Rattle.token.specs.declared.Mark.TheVariants as mark
 use Rattle.token.specs.declared.Op.{Op}
-use Rattle.token.specs.declared.Op.TheVariants as op
 use Rattle.token.specs.Tokens.{Tok, Lexeme, is_mark, same_mark}
 use Rattle.token.specs.Tokens as lexeme
 use Rattle.expr.specs.declared.Level.{Level}
@@ -17,7 +16,7 @@ use Rattle.expr.specs.Reading as reading
 use Rattle.form_laws.specs.Grammar.{Writing, Part, a_number, an_eoi, a_name, a_field, in_brackets, Joined, alone, joined, Compared, ExpressionOf, Nothing, PartIn, Expression}
 use Rattle.form_laws.specs.Grammar as grammar
 use Rattle.form_laws.specs.Law.{place_told, place_of}
-use Rattle.form_laws.proofs.Right.{never_form, never_deep, never_true, ok_value, ok_rest, both_ok, after_both, rest_short, Reads, Right, Stuck, both_refused, never_refused, stuck_by, stuck_end, stuck_token, stuck_deep, stuck_shift, told_form, never_cons, same_front}
+use Rattle.form_laws.proofs.Right.{never_form, never_deep, never_true, ok_value, ok_rest, both_ok, after_both, rest_short, Right, Stuck, both_refused, never_refused, stuck_by, stuck_end, stuck_token, stuck_deep, stuck_shift, told_form, never_cons, same_front}
 use Rattle.form_laws.proofs.Tokens.{mark_is}
 
 -- ---- levels

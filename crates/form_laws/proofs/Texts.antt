@@ -1,16 +1,16 @@
 -- Alternatives, rules and texts are read as the grammar writes them.
-use Rattle.std.proofs.Common.{◌≡◌, ℕ, zero, suc, ◌≤◌, Bool, true, false, cond, ◌||◌, List, [], ◌∷◌, ◌++◌, length, sym, refl, ap, ◌∙◌, subst, append_assoc, append-nil, arith, length-append}
+use Rattle.std.proofs.Common.{◌≡◌, ℕ, ◌≤◌, Bool, true, false, cond, List, [], ◌∷◌, ◌++◌, length, sym, refl, ap, ◌∙◌, subst, append_assoc, append-nil, arith, length-append}
 use Rattle.token.specs.declared.Mark.TheVariants as mark
 use Rattle.token.specs.declared.Op.TheVariants as op
 use Rattle.token.specs.Tokens.{Tok, Lexeme, is_mark, is_operator}
 use Rattle.token.specs.Tokens as lexeme
 use Rattle.expr.specs.declared.Refusal.{Refusal}
-use Rattle.expr.specs.Reading.{Refuses, Read, ok, form, deep, and_then}
-use Rattle.term.specs.Form.{TermTree, mark_at, name_at, term_at}
+use Rattle.expr.specs.Reading.{Refuses, Read, ok, form, and_then}
+use Rattle.term.specs.Form.{TermTree, name_at, term_at}
 use Rattle.rule.specs.Form.{RuleTree, several, at_stop, none_left, term_item, terms_at, branch_end, alternative_at, alternatives_at, rule_at, rules_at}
 use Rattle.form_laws.specs.Grammar.{Writing, Term, a_literal, a_call, an_attribute, a_guard, Several, one, more, Parted, whole, parted, Rule, a_rule, Text}
-use Rattle.form_laws.specs.Law.{FormIsGrammar, Leaves, RefusalsAreFirst}
-use Rattle.form_laws.proofs.Right.{Stuck, never_refused, stuck_end, stuck_token, never_form, never_true, ok_value, ok_rest, Reads, Right, Any, right_by, Seq, seq, seq_right, Done, done, done_right, Flagged, flagged, flagged_right, Told, One, the, Token, Run, last, on, several_right}
+use Rattle.form_laws.specs.Law.{FormIsGrammar, RefusalsAreFirst}
+use Rattle.form_laws.proofs.Right.{Stuck, never_refused, stuck_end, stuck_token, never_form, never_true, ok_value, ok_rest, Right, Any, right_by, Seq, seq, seq_right, Done, done, done_right, Flagged, flagged, flagged_right, Told, One, the, Token, Run, last, on, several_right}
 use Rattle.form_laws.proofs.Tokens.{mark_is, op_is}
 use Rattle.form_laws.proofs.Terms.{Named, named, name_right, mark_then, term_right}
 

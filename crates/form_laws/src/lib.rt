@@ -1,5 +1,6 @@
 // Laws of the form of grammar texts, above the definition that the reader is proved against.
 #![tactic(auto)]
+
 ghost use Rattle.form_laws.specs.Law.{FormIsGrammar, RefusalsAreFirst};
 
 // The form accepts the tokens that the grammar writes, with the rules that they write, and no others.

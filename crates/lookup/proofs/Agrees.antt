@@ -3,8 +3,6 @@ use Rattle.std.proofs.Common.{◌≡◌, ℕ, ◌||◌, List, [], ◌∷◌, map
 use Rattle.code.specs.Pieces.{Piece}
 use Rattle.term.specs.Tables.{Tables, Entry}
 use Rattle.term.specs.Tables as entry
-use Rattle.rule.specs.Form.{RuleTree}
-use Rattle.term.specs.Form.{TermTree}
 use Rattle.draft.specs.Shown.{shown_term, shown_rule, alternatives_of, rules_of}
 use Rattle.names.specs.Names.{any, attribute_is}
 use Rattle.lookup.specs.Lookup.{called, sets, rule_names, among, is_name}

@@ -1,5 +1,5 @@
 -- What a name of a text stands for: a rule or a reader, an attribute's slot, an earlier call.
-use Rattle.std.specs.Prelude.{ℕ, suc, Bool, true, false, cond, ◌||◌, List, [], ◌∷◌, ◌++◌, map, Some, None, Option}
+use Rattle.std.specs.Prelude.{ℕ, suc, Bool, false, cond, ◌||◌, List, [], ◌∷◌, ◌++◌, map, Some, None, Option}
 use Rattle.std.specs.Str.{bytes_eq}
 use Rattle.fields.specs.Names.{reader_table, number_in}
 use Rattle.term.specs.Form.{TermTree}

@@ -1,5 +1,6 @@
 // What a name stands for: a rule or a reader, the latest call, an attribute. Looked up in the arenas of a draft.
 #![tactic(auto)]
+
 ghost use Rattle.std.specs.Prelude.{◌≡◌, map};
 ghost use Rattle.arena.specs.Bounded.{stored};
 ghost use Rattle.term.specs.Tables.{head, entry};

@@ -1,5 +1,5 @@
 -- Names that may not stand where they do.
-use Rattle.std.specs.Prelude.{ℕ, Bool, true, false, ◌||◌, List, [], ◌∷◌, codes}
+use Rattle.std.specs.Prelude.{ℕ, Bool, false, ◌||◌, List, [], ◌∷◌, codes}
 use Rattle.std.specs.Str.{bytes_eq}
 use Rattle.term.specs.Tables.{Head, Entry}
 use Rattle.term.specs.Tables as entry

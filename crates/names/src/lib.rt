@@ -1,5 +1,6 @@
 // Names that may not stand where they do: looked for in the arenas of a draft.
 #![tactic(auto)]
+
 ghost use Rattle.std.specs.Prelude.{◌≡◌, map};
 ghost use Rattle.std.specs.Str.{bytes_eq};
 ghost use Rattle.term.specs.Tables.{head, entry};

@@ -1,10 +1,10 @@
 -- Names noted one by one, nine at most, are the front of all names noted.
-use Rattle.std.proofs.Common.{◌≡◌, ℕ, zero, suc, ◌+◌, ◌-◌, ◌<◌, ◌≤◌, Bool, true, false, cond, ◌||◌, ◌⊎◌, List, [], ◌∷◌, ◌++◌, map, length, get_or, take, drop, Some, None, Option, sym, refl, ap, ◌∙◌, inl, inr, ⊎_elim, append-nil, add-one, arith, length-append, length-take, drop-cons}
-use Rattle.std.proofs.lemmas.List.{length-map, drop_all, take_all, take-map, drop-map}
-use lib.Seq.{take-append-le, take-append_seam}
+use Rattle.std.proofs.Common.{◌≡◌, ℕ, ◌+◌, ◌<◌, ◌≤◌, Bool, true, false, cond, ◌||◌, List, [], ◌∷◌, ◌++◌, map, length, get_or, take, drop, Some, None, Option, sym, refl, ap, ◌∙◌, ⊎_elim, add-one, arith, length-append, length-take, drop-cons}
+use Rattle.std.proofs.lemmas.List.{length-map, drop_all, take_all}
+use lib.Seq.{take-append-le}
 use Rattle.std.proofs.lemmas.Bool.Decides.{leb_tells}
 use Rattle.std.specs.Str.{bytes_eq}
-use Rattle.lookup.specs.Lookup.{later, place_in, is_name, among, noted, noted_all, noted_in, slots_of, sets}
+use Rattle.lookup.specs.Lookup.{later, place_in, among, noted, noted_all, noted_in, slots_of, sets}
 use Rattle.term.specs.declared.arenas.Term.{Term}
 use Rattle.term.specs.declared.arenas.Arenas.{Arenas}
 use Rattle.term.specs.declared.arenas.Rule.{Rule}

@@ -1,5 +1,5 @@
 -- The names of a table, and the rule's slots as far as a table goes.
-use Rattle.std.specs.Prelude.{ℕ, Bool, cond, List, [], ◌∷◌, ◌++◌, map, take, Option}
+use Rattle.std.specs.Prelude.{ℕ, List, [], ◌∷◌, map, take, Option}
 use Rattle.code.specs.Names.{letters}
 use Rattle.lookup.specs.Lookup.{noted}
 use Rattle.slots.specs.declared.table.Slots.{Slots}

@@ -1,5 +1,6 @@
 // The slots of a rule: its different attribute names, in the order of their first standing.
 #![tactic(auto)]
+
 mod collect;
 mod span;
 mod table;

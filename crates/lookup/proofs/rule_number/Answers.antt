@@ -1,9 +1,8 @@
-use Rattle.std.proofs.Common.{◌≡◌, ℕ, ◌≤◌, Bool, List, map, length, drop, sym, refl, ap, ◌∙◌, arith}
+use Rattle.std.proofs.Common.{◌≤◌, map, length, sym, refl, ap, ◌∙◌, arith}
 use Rattle.std.proofs.lemmas.List.{drop_all}
 use Rattle.std.specs.Str.{bytes_eq}
 use Rattle.code.specs.Names.{letters}
 use Rattle.term.specs.Tables.{head}
-use Rattle.term.specs.declared.arenas.Rule.{Rule}
 use Rattle.lookup.specs.Lookup.{place_in}
 use Rattle.lookup.proofs.Agrees.{map_agrees}
 use Rattle.lookup.proofs.Places.{after, place_start, place_found, place_on}

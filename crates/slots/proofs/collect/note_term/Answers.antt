@@ -1,4 +1,4 @@
-use Rattle.std.proofs.Common.{◌≡◌, sym, refl, ap, ◌∙◌}
+use Rattle.std.proofs.Common.{ap}
 use Rattle.term.specs.Tables.{entry}
 use Rattle.lookup.specs.Stored.{sets_entry}
 use Rattle.slots.proofs.Collected.{unset}

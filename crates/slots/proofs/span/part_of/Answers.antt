@@ -4,4 +4,4 @@ use Rattle.slots.proofs.span.part_of.Goals as goal
 
 pub returns : goal.returns
 returns g c =
-    part_is c.args.items.now _ c.args.span c.min-from.result c.min-n.result c.saturating-sub.result c.min-from.ensures refl c.saturating-sub.ensures c.min-n.ensures
+    part_is c.args.items.now _ c.args.span c.min-from.result c.min-n.result c.saturating_sub.result c.min-from.ensures refl c.saturating_sub.ensures c.min-n.ensures

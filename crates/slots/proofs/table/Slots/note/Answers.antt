@@ -1,4 +1,4 @@
-use Rattle.std.proofs.Common.{◌≡◌, ◌<◌, List, [], ◌∷◌, ◌++◌, map, length, take, Some, None, sym, refl, ap, ◌∙◌, arith}
+use Rattle.std.proofs.Common.{◌≡◌, ◌<◌, [], ◌∷◌, map, length, take, Some, None, sym, ap, ◌∙◌, arith}
 use Rattle.std.proofs.lemmas.List.{map-append, take_all, take_more_set}
 use Rattle.code.specs.Names.{letters}
 use Rattle.lookup.specs.Lookup.{place_in}
@@ -15,11 +15,11 @@ returns-in-None c =
     let len = listed_length s in
     ap (map letters) (take_more_set s.names s.len c.args.name room) ∙ map-append letters (take s.len s.names) (c.args.name ∷ []) ∙ added (listed s) w (omega arith) absent
 
-pub returns-in-default : goal.returns-in-default
-returns-in-default c =
+pub returns-in_default : goal.returns-in_default
+returns-in_default c =
     let s = c.args.self.now in
     let len = listed_length s in
-    stood (listed s) (letters c.args.name) c.in-default.field-0 (omega (arith, s.few)) (sym (c.in-default.ensures ∙ ap (place_in (listed s)) c.bytes.ensures))
+    stood (listed s) (letters c.args.name) c.in_default.field-0 (omega (arith, s.few)) (sym (c.in_default.ensures ∙ ap (place_in (listed s)) c.bytes.ensures))
 
 pub returns-else-self-lt-ROOM : goal.returns-else-self-lt-ROOM
 returns-else-self-lt-ROOM c =
