@@ -3,7 +3,7 @@
 
 ghost use Rattle.std.specs.Prelude.{◌≡◌, length, drop};
 ghost use Rattle.stack.specs.Stacks.{held, room};
-ghost use Rattle.meaning.specs.Values.{nth, value as value_of_lem};
+ghost use Rattle.meaning.specs.Values.{nth, value as value_of};
 ghost use Rattle.meaning.specs.declared.window.Window.{Window as Extent};
 ghost use Rattle.sealed.specs.Codes.{expr_of};
 ghost use Rattle.sealed.specs.Parts.{part};
@@ -29,7 +29,7 @@ fn slot(slots: &[u64], k: u64) -> Option<u64>
 
 // The value of a part; an operator or brackets alone have none.
 fn part_value(code: Code, c: Start, slots: &[u64], below: &[Node]) -> Option<u64>
-    ensures { (u : Extent) → result ≡ value_of_lem c (record { slots = slots.entry.now; below = below.now; used = u }) (leaf_of code) }
+    ensures { (u : Extent) → result ≡ value_of c (record { slots = slots.entry.now; below = below.now; used = u }) (leaf_of code) }
 {
     match code {
         Code::Number(n) => Some(n),
@@ -128,7 +128,7 @@ pub fn evaluate(
     below: &[Node],
     numbers: &mut [u64; PENDING],
 ) -> Option<u64>
-    ensures { (u : Extent) → result ≡ value_of_lem c (record { slots = slots.entry.now; below = below.now; used = u }) (expr_of (part span grammar.now.code.items)) }
+    ensures { (u : Extent) → result ≡ value_of c (record { slots = slots.entry.now; below = below.now; used = u }) (expr_of (part span grammar.now.code.items)) }
 {
     let codes = grammar.code_of(span);
     let mut stack = Stack::new(&mut numbers[0..PENDING]);
