@@ -96,7 +96,7 @@ abbrev pub of : Grammar → List ℕ → Outcome
 of = limited 1000000 4096 65535
 
 -- a node, its slots filled up with 0
-abbrev pub node : (number alternative parent term : ℕ) → (left right : ℕ) → (used_left used-right : ℕ) → List ℕ → Node
+abbrev pub node : (number alternative parent term : ℕ) → (left right : ℕ) → (used_left used_right : ℕ) → List ℕ → Node
 node n a p t l r ul ur s = record {
   number = n;
   alternative = a;

@@ -141,7 +141,7 @@ module _ (n : ℕ) (more : (at : ℕ) (bs : List ℕ) → length bs ≤ n → La
       let joined : b ∷ ((body ++ r ∷ []) ++ rest) ≡ b ∷ (body ++ r ∷ rest) = ap (λ l. b ∷ l) (append_assoc body (r ∷ []) rest) in
       let last : not (text_byte r) ≡ true = sym (ap (stops text_byte) e) ∙ back_stops text_byte bs in
       let sizes = back_few text_byte bs in
-      let Size-back = ap length e in
+      let size_back = ap length e in
       let size-piece = length-append body (r ∷ []) in
       let to : at + 1 + length body + 1 ≡ at + length (b ∷ body ++ r ∷ []) = omega arith in
       here at _ (b ∷ bs) (b ∷ body ++ r ∷ []) rest (text (bytes_of body)) (lexed (at + 1 + length body + 1) rest) (ap (λ l. b ∷ l) all-of-it ∙ sym joined) (a_string b r body rest is (front_all text_byte bs) (turned (text_byte r) last) k) to (more (at + 1 + length body + 1) rest (omega arith))
