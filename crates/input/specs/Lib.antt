@@ -2,3 +2,4 @@ pub mod Bytes
 pub mod Errata
 pub mod Numbers
 pub mod Benches
+pub mod Windows

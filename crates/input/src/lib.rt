@@ -13,7 +13,7 @@ pub mod window;
 pub use bench::Bench;
 pub use refusal::Refusal;
 pub use slice::SliceInput;
-pub use window::WindowInput;
+pub use window::{Window, WindowInput};
 
 /// An input means a list of at most 2^24 bytes, `shown`. Whoever writes a new one shows these two calls and nothing else.
 pub trait Input {
