@@ -1,4 +1,5 @@
 pub mod Pieces
+pub mod Lines
 pub mod Numbers
 pub mod Hex
 pub mod Commands

@@ -1,8 +1,8 @@
 ghost use Rattle.std.specs.Prelude.{◌≡◌, ℕ, List};
-ghost use Rattle.script.specs.Commands.{none_left, two_numbers, keyword_of, asks, given, comment, command_of};
+ghost use Rattle.script.specs.Commands.{none_left, two_numbers, File, Patch, asks, given, comment, command_of};
 
 use crate::number::number;
-use crate::piece::{cut_word, is_word};
+use crate::piece::{Cut, cut_word};
 
 /// What a line of a script asks for. Hexadecimal bytes and a path are parts of the line.
 #[derive(Clone, Copy)]
@@ -23,61 +23,6 @@ pub enum Command<'a> {
     Draft,
 }
 
-/// The first word of a command.
-#[derive(Clone, Copy)]
-pub enum Keyword {
-    First,
-    Second,
-    Bytes,
-    File,
-    Window,
-    Patch,
-    Undo,
-    Show,
-    Text,
-    TextHex,
-    Draft,
-}
-
-fn keyword_of(word: &[u8]) -> Option<Keyword>
-    ensures { result ≡ keyword_of word.now }
-{
-    if is_word(word, b"first") {
-        return Some(Keyword::First);
-    }
-    if is_word(word, b"second") {
-        return Some(Keyword::Second);
-    }
-    if is_word(word, b"bytes") {
-        return Some(Keyword::Bytes);
-    }
-    if is_word(word, b"file") {
-        return Some(Keyword::File);
-    }
-    if is_word(word, b"window") {
-        return Some(Keyword::Window);
-    }
-    if is_word(word, b"patch") {
-        return Some(Keyword::Patch);
-    }
-    if is_word(word, b"undo") {
-        return Some(Keyword::Undo);
-    }
-    if is_word(word, b"show") {
-        return Some(Keyword::Show);
-    }
-    if is_word(word, b"text") {
-        return Some(Keyword::Text);
-    }
-    if is_word(word, b"text-hex") {
-        return Some(Keyword::TextHex);
-    }
-    if is_word(word, b"draft") {
-        return Some(Keyword::Draft);
-    }
-    None
-}
-
 fn is_end(rest: &[u8]) -> bool
     ensures { result ≡ none_left rest.now }
 {
@@ -93,108 +38,31 @@ fn numbers(rest: &[u8]) -> Option<(usize, usize)>
     if !is_end(second.rest) {
         return None;
     }
-    match (number(first.piece), number(second.piece)) {
-        (Some(left), Some(right)) => Some((left, right)),
-        _ => None,
-    }
+    Some((number(first.piece)?, number(second.piece)?))
 }
 
 fn read_file(rest: &[u8]) -> Option<Command<'_>>
-    ensures { asks result ≡ given Keyword.File rest.now }
+    ensures { asks result ≡ given File rest.now }
 {
     let path = cut_word(rest);
-    if path.piece.is_empty() || !is_end(path.rest) {
-        return None;
-    }
-    Some(Command::File { path: path.piece })
+    let stands_alone = !path.piece.is_empty() && is_end(path.rest);
+    stands_alone.then_some(Command::File { path: path.piece })
 }
 
 fn read_patch(rest: &[u8]) -> Option<Command<'_>>
-    ensures { asks result ≡ given Keyword.Patch rest.now }
+    ensures { asks result ≡ given Patch rest.now }
 {
     let place = cut_word(rest);
-    match number(place.piece) {
-        Some(p) => Some(Command::Patch {
-            place: p,
-            hex: place.rest,
-        }),
-        None => None,
-    }
-}
-
-fn read_window(rest: &[u8]) -> Option<Command<'_>>
-    ensures { asks result ≡ given Keyword.Window rest.now }
-{
-    match numbers(rest) {
-        Some((left, right)) => Some(Command::Window { left, right }),
-        None => None,
-    }
-}
-
-fn read_show(rest: &[u8]) -> Option<Command<'_>>
-    ensures { asks result ≡ given Keyword.Show rest.now }
-{
-    match numbers(rest) {
-        Some((left, right)) => Some(Command::Show { left, right }),
-        None => None,
-    }
-}
-
-fn with_rest(keyword: Keyword, rest: &[u8]) -> Option<Command<'_>>
-    ensures { asks result ≡ given keyword rest.now }
-{
-    match keyword {
-        Keyword::First => {
-            if is_end(rest) {
-                Some(Command::First)
-            } else {
-                None
-            }
-        }
-        Keyword::Second => {
-            if is_end(rest) {
-                Some(Command::Second)
-            } else {
-                None
-            }
-        }
-        Keyword::Bytes => Some(Command::Bytes { hex: rest }),
-        Keyword::File => read_file(rest),
-        Keyword::Window => read_window(rest),
-        Keyword::Patch => read_patch(rest),
-        Keyword::Undo => {
-            if is_end(rest) {
-                Some(Command::Undo)
-            } else {
-                None
-            }
-        }
-        Keyword::Show => read_show(rest),
-        Keyword::Text => {
-            if is_end(rest) {
-                Some(Command::Text)
-            } else {
-                None
-            }
-        }
-        Keyword::TextHex => Some(Command::TextHex { hex: rest }),
-        Keyword::Draft => {
-            if is_end(rest) {
-                Some(Command::Draft)
-            } else {
-                None
-            }
-        }
-    }
+    Some(Command::Patch {
+        place: number(place.piece)?,
+        hex: place.rest,
+    })
 }
 
 fn is_comment(line: &[u8]) -> bool
     ensures { result ≡ comment line.now }
 {
-    match line {
-        [b'#', ..] => true,
-        _ => false,
-    }
+    matches!(line, [b'#', ..])
 }
 
 /// The command of a line, or none where it is not understood. Hexadecimal bytes are decoded later.
@@ -204,12 +72,20 @@ pub fn read_command(line: &[u8]) -> Option<Command<'_>>
     if is_comment(line) {
         return Some(Command::Skip);
     }
-    let name = cut_word(line);
-    if name.piece.is_empty() {
-        return Some(Command::Skip);
-    }
-    match keyword_of(name.piece) {
-        Some(keyword) => with_rest(keyword, name.rest),
-        None => None,
+    let Cut { piece, rest } = cut_word(line);
+    match piece {
+        b"" => Some(Command::Skip),
+        b"first" => is_end(rest).then_some(Command::First),
+        b"second" => is_end(rest).then_some(Command::Second),
+        b"bytes" => Some(Command::Bytes { hex: rest }),
+        b"file" => read_file(rest),
+        b"window" => numbers(rest).map(|(left, right)| Command::Window { left, right }),
+        b"patch" => read_patch(rest),
+        b"undo" => is_end(rest).then_some(Command::Undo),
+        b"show" => numbers(rest).map(|(left, right)| Command::Show { left, right }),
+        b"text" => is_end(rest).then_some(Command::Text),
+        b"text-hex" => Some(Command::TextHex { hex: rest }),
+        b"draft" => is_end(rest).then_some(Command::Draft),
+        _ => None,
     }
 }

@@ -4,13 +4,14 @@ use Rattle.std.proofs.lemmas.List.{take_all}
 use Rattle.std.proofs.lemmas.Bool.Decides.{nat_tests}
 use Rattle.arena.specs.Bounded.{upto}
 use Rattle.arena.proofs.Bounds.{twice, by_none}
-use Rattle.strings.specs.Decoding.{hex_value, plain, digits, decode, consed, decoded_length, or_empty, bytes_of}
+use Rattle.digits.specs.Digits.{digit_of, pair_of}
+use Rattle.strings.specs.Decoding.{plain, decode, consed, decoded_length, or_empty, bytes_of}
 
 -- the bytes past the first n
 abbrev pub past : ℕ → List ℕ → List ℕ
 past n bs = take (length bs - n) (drop n bs)
 
-pub escaped : (bs : List ℕ) → 4 ≤ length bs → get_or bs 0 0 ≡ 0x5C → get_or bs 1 0 ≡ 0x78 → decode bs ≡ consed (digits (hex_value (get_or bs 2 0)) (hex_value (get_or bs 3 0))) (decode (past 4 bs))
+pub escaped : (bs : List ℕ) → 4 ≤ length bs → get_or bs 0 0 ≡ 0x5C → get_or bs 1 0 ≡ 0x78 → decode bs ≡ consed (pair_of (digit_of (get_or bs 2 0)) (digit_of (get_or bs 3 0))) (decode (past 4 bs))
 escaped [] h p q = absurd (omega arith)
 escaped (a ∷ []) h p q = absurd (omega arith)
 escaped (a ∷ b ∷ []) h p q = absurd (omega arith)
