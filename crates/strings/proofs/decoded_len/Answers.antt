@@ -7,5 +7,5 @@ loop-rest-init c = (omega arith, counted_none _)
 
 pub loop-rest-preserved : goal.loop-rest-preserved
 loop-rest-preserved c =
-    let one = c.in-Some.ensures in
+    let one = c.in_ok-rest.ensures in
     (omega (arith, one.1, c.loop-rest.invariant.0), c.loop-rest.invariant.1 ∙ ap (counted c.loop-rest.n) one.0 ∙ counted_more _ _ _)
