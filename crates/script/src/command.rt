@@ -1,8 +1,10 @@
 ghost use Rattle.std.specs.Prelude.{◌≡◌, ℕ, List};
+ghost use Rattle.script.specs.Ends.{ends_of};
 ghost use Rattle.script.specs.Commands.{none_left, two_numbers, File, Patch, asks, given, comment, command_of};
 
 use crate::number::number;
 use crate::piece::{Cut, cut_word};
+use input::Window;
 
 /// What a line of a script asks for. Hexadecimal bytes and a path are parts of the line.
 #[derive(Clone, Copy)]
@@ -13,10 +15,10 @@ pub enum Command<'a> {
     Second,
     Bytes { hex: &'a [u8] },
     File { path: &'a [u8] },
-    Window { left: usize, right: usize },
+    Window(Window),
     Patch { place: usize, hex: &'a [u8] },
     Undo,
-    Show { left: usize, right: usize },
+    Show(Window),
     /// The lines that follow, up to `end`, are a grammar text.
     Text,
     TextHex { hex: &'a [u8] },
@@ -29,16 +31,19 @@ fn is_end(rest: &[u8]) -> bool
     cut_word(rest).piece.is_empty()
 }
 
-// The two numbers that a line has left, and nothing else.
-fn numbers(rest: &[u8]) -> Option<(usize, usize)>
-    ensures { result ≡ two_numbers rest.now }
+// The two ends that a line has left, and nothing else.
+fn window(rest: &[u8]) -> Option<Window>
+    ensures { ends_of result ≡ two_numbers rest.now }
 {
-    let first = cut_word(rest);
-    let second = cut_word(first.rest);
-    if !is_end(second.rest) {
+    let left = cut_word(rest);
+    let right = cut_word(left.rest);
+    if !is_end(right.rest) {
         return None;
     }
-    Some((number(first.piece)?, number(second.piece)?))
+    Some(Window {
+        left: number(left.piece)?,
+        right: number(right.piece)?,
+    })
 }
 
 fn read_file(rest: &[u8]) -> Option<Command<'_>>
@@ -79,10 +84,10 @@ pub fn read_command(line: &[u8]) -> Option<Command<'_>>
         b"second" => is_end(rest).then_some(Command::Second),
         b"bytes" => Some(Command::Bytes { hex: rest }),
         b"file" => read_file(rest),
-        b"window" => numbers(rest).map(|(left, right)| Command::Window { left, right }),
+        b"window" => Some(Command::Window(window(rest)?)),
         b"patch" => read_patch(rest),
         b"undo" => is_end(rest).then_some(Command::Undo),
-        b"show" => numbers(rest).map(|(left, right)| Command::Show { left, right }),
+        b"show" => Some(Command::Show(window(rest)?)),
         b"text" => is_end(rest).then_some(Command::Text),
         b"text-hex" => Some(Command::TextHex { hex: rest }),
         b"draft" => is_end(rest).then_some(Command::Draft),

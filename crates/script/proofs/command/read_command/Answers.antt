@@ -13,8 +13,8 @@ returns-in-second c =
     let asked : given Second (after_word line) ≡ command_of line = ap (λ w. given_any (keyword_of w) (after_word line)) (sym word) ∙ command_at line piece (search rules) (search rules) c.cut_word.ensures.piece in
     search rules
 
-pub returns-in-window : goal.returns-in-window
-returns-in-window c =
+pub returns-in_ok-window-in-window : goal.returns-in_ok-window-in-window
+returns-in_ok-window-in-window c =
     let line = c.args.line.now in
     let piece = c.cut_word.result.piece.now in
     let word : piece ≡ codes "window" = text_from_reads piece (codes "window") (search rules) (search rules) in
