@@ -26,7 +26,7 @@ fn first(body: &[u8]) -> Option<(u8, &[u8])>
     }
 }
 
-// How many bytes a string's body stands for, or none where the body is not allowed.
+/// How many bytes a string's body stands for, or none where the body is not allowed.
 pub fn decoded_len(body: &[u8]) -> Option<usize>
     ensures { result ≡ decoded_length (decode body.now) }
 {
@@ -39,7 +39,7 @@ pub fn decoded_len(body: &[u8]) -> Option<usize>
     Some(n)
 }
 
-// Appends the bytes that a string's body stands for, as far as there is room; none for a body that is not allowed.
+/// Appends the bytes that a string's body stands for, as far as there is room; none for a body that is not allowed.
 pub fn decode_into(body: &[u8], out: &mut Arena<u8, 513>)
     ensures { stored out.new ≡ upto 513 (stored out.old) (bytes_of body.now) }
 {

@@ -1,5 +1,6 @@
 use crate::show::show;
 use answers::Numbered;
+use input::slice::LONGEST;
 use input::{Bench, Input, SliceInput, Window};
 use script::command::{Command, read_command};
 use script::hex::decode_hex;
@@ -9,7 +10,7 @@ use std::io::{Read, Write};
 use std::{fmt, fs, io, mem};
 
 // One byte more than an input shows, so that a longer file is seen to be too long without being read whole.
-const READ_AT_MOST: u64 = 16_777_217;
+const READ_AT_MOST: u64 = LONGEST as u64 + 1;
 
 /// Why a line was not answered.
 #[derive(Debug, Drop)]
