@@ -13,6 +13,7 @@ fn append(value: usize, digit: u8) -> Option<usize>
 }
 
 /// The value of a word of decimal digits, leading zeros allowed; none where it has no or other bytes, or passes 2^64 - 1.
+#[tactic(auto, using(crate::proofs::Counting::begins, crate::proofs::Counting::refused, crate::proofs::Counting::ends), unfolding(crate::specs::Numbers::number_of))]
 pub fn number(word: &[u8]) -> Option<usize>
     ensures { result ≡ number_of word.now }
 {

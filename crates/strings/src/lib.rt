@@ -16,6 +16,7 @@ fn is_plain(b: u8) -> bool
 }
 
 // The byte that the front of a body stands for, and the body after it; none where the front is not allowed, or nothing is left.
+#[tactic(auto, using(crate::proofs::Rests::refused_front, std::proofs::lemmas::Bool::Decides::nat_tests))]
 fn first(body: &[u8]) -> Option<(u8, &[u8])>
     ensures { First body.now result }
 {
@@ -27,6 +28,7 @@ fn first(body: &[u8]) -> Option<(u8, &[u8])>
 }
 
 /// How many bytes a string's body stands for, or none where the body is not allowed.
+#[tactic(auto, using(crate::proofs::Rests::counted_none, crate::proofs::Rests::counted_more))]
 pub fn decoded_len(body: &[u8]) -> Option<usize>
     ensures { result ≡ decoded_length (decode body.now) }
 {
@@ -40,6 +42,7 @@ pub fn decoded_len(body: &[u8]) -> Option<usize>
 }
 
 /// Appends the bytes that a string's body stands for, as far as there is room; none for a body that is not allowed.
+#[tactic(auto, using(crate::proofs::Rests::not_allowed, crate::proofs::Rests::begins, crate::proofs::Rests::goes_on, crate::proofs::Rests::all_there))]
 pub fn decode_into(body: &[u8], out: &mut Arena<u8, 513>)
     ensures { stored out.new ≡ upto 513 (stored out.old) (bytes_of body.now) }
 {
