@@ -47,6 +47,7 @@ asks None = None
 pub data Keyword : Type 0 where
   First Second Bytes File Window Patch Undo Show Text TextHex Draft : Keyword
 
+-- the keyword that a word is
 abbrev pub keyword_of : List ℕ → Option Keyword
 keyword_of w =
     cond (bytes_eq w (codes "first")) (Some First)
