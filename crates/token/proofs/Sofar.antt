@@ -1,5 +1,6 @@
 -- Where the token reader stands.
-use Rattle.std.proofs.Common.{◌≡◌, ℕ, ◌<◌, ◌≤◌, List, [], ◌∷◌, length, drop, refl, ap, arith, drop_of_length-le}
+use Rattle.std.proofs.Common.{◌≡◌, ℕ, ◌<◌, ◌≤◌, min, List, [], ◌∷◌, length, drop, refl, sym, ap, ◌∙◌, inl, inr, arith, drop_of_length-le}
+use Rattle.std.proofs.lemmas.Bool.{cases_lt}
 use Rattle.token.specs.declared.Found.{Found}
 use Rattle.token.specs.declared.Placed.{Placed}
 use Rattle.token.specs.declared.State.{State}
@@ -18,9 +19,15 @@ stands_within bs (state.InName f) at h = h.1
 stands_within bs (state.InNumber f v) at h = h.1
 stands_within bs (state.InText f) at h = h.1
 
-pub past_end : (bs : List ℕ) (at : ℕ) → length bs < at → tokens_at bs at ≡ []
+-- no token stands after the end
+pub within : (bs : List ℕ) (at m : ℕ) → m ≡ min at (length bs) → tokens_at bs m ≡ tokens_at bs at
 unfolding tokens_at lexed
-past_end bs at h = ap (λ l. toks (lexed at l)) (drop_of_length-le bs (omega arith))
+within bs at m h = elim (cases_lt at (length bs)) [
+  inl less ↦ ap (tokens_at bs) (omega arith)
+  | inr more ↦
+    let last : m ≡ length bs = omega arith in
+    ap (tokens_at bs) last ∙ ap (λ l. toks (lexed (length bs) l)) (drop_of_length-le bs (omega arith)) ∙ sym (ap (λ l. toks (lexed at l)) (drop_of_length-le bs (omega arith)))
+]
 
 pub toks_found : (bs : List ℕ) (at : ℕ) (f : Found) → lexed at (drop at bs) ≡ found bs f → tokens_at bs at ≡ toks (found bs f)
 unfolding tokens_at

@@ -301,7 +301,7 @@ unfoldable pub tokens_at : List ℕ → ℕ → List Tok
 tokens_at bs at = toks (lexed at (drop at bs))
 
 abbrev pub NextIs : List ℕ → ℕ → Option (Placed × ℕ) → Type 0
-NextIs bs at (Some x) = (tokens_at bs at ≡ shown x.0 ∷ tokens_at bs x.1) × Sized (lexeme x.0.token)
+NextIs bs at (Some x) = (tokens_at bs at ≡ shown x.0 ∷ tokens_at bs x.1) × Sized (lexeme x.0.token) × (x.1 ≤ length bs)
 NextIs bs at None = tokens_at bs at ≡ []
 
 -- the first place that has no token

@@ -8,7 +8,11 @@ ghost use Rattle.token.specs.Laid.{TokensStand};
 
 use strings::decoded_len;
 
-#[derive(Clone, Copy, PartialEq)]
+mod tokens;
+
+pub use tokens::Tokens;
+
+#[derive(Clone, Copy, PartialEq, Eq, Debug)]
 pub enum Mark {
     Colon,
     OpenSquare,
@@ -22,7 +26,7 @@ pub enum Mark {
     Dot,
 }
 
-#[derive(Clone, Copy)]
+#[derive(Clone, Copy, PartialEq, Eq, Debug)]
 pub enum Op {
     Equal,
     Below,
@@ -34,7 +38,7 @@ pub enum Op {
     Shift,
 }
 
-#[derive(Clone, Copy)]
+#[derive(Clone, Copy, Debug)]
 pub enum Token<'a> {
     Name(&'a [u8]),
     Text(&'a [u8]),
@@ -45,7 +49,7 @@ pub enum Token<'a> {
     Guard,
 }
 
-#[derive(Clone, Copy)]
+#[derive(Clone, Copy, Debug)]
 pub struct Placed<'a> {
     pub place: usize,
     pub token: Token<'a>,
@@ -253,12 +257,10 @@ fn scan<'a>(text: &'a [u8], from: usize) -> Found<'a>
 }
 
 // The next token from a place on, with the place after it; none at the end of the text or before what is no token.
-pub fn next<'a>(text: &'a [u8], at: usize) -> Option<(Placed<'a>, usize)>
+fn next_from<'a>(text: &'a [u8], at: usize) -> Option<(Placed<'a>, usize)>
+    requires { at ≤ length text.now }
     ensures { NextIs text.now at result }
 {
-    if at > text.len() {
-        return None;
-    }
     match scan(text, at) {
         Found::Token(token, to) => Some((token, to)),
         Found::Refused(_) | Found::End => None,
@@ -280,8 +282,6 @@ pub fn bad_token(text: &[u8]) -> Option<usize>
 }
 
 // A law. Of every text: before each token, and after the last one, stand only separators; each token is the longest at its place, and the next one stands after it.
-pub fn tokens_stand() -> u8
+pub fn tokens_stand()
     ensures { TokensStand }
-{
-    0
-}
+{}

@@ -1,15 +1,12 @@
 use Rattle.std.proofs.Common.{ap, ◌∙◌, inl, inr, arith}
 use Rattle.token.specs.Tokens.{toks, found}
-use Rattle.token.proofs.Sofar.{past_end, toks_found, toks_token}
-use Rattle.token.proofs.next.Goals as goal
-
-pub returns-then-at-text : goal.returns-then-at-text
-returns-then-at-text c = past_end c.args.text.now c.args.at (omega arith)
+use Rattle.token.proofs.Sofar.{toks_found, toks_token}
+use Rattle.token.proofs.next_from.Goals as goal
 
 pub returns-in-Token : goal.returns-in-Token
 returns-in-Token c =
     let e = c.in-Token.ensures in
-    (toks_token c.args.text.now c.args.at c.in-Token.token c.in-Token.to e.reads, e.moves.2)
+    (toks_token c.args.text.now c.args.at c.in-Token.token c.in-Token.to e.reads, e.moves.2, e.moves.1)
 
 pub returns-in-Refused : goal.returns-in-Refused
 returns-in-Refused c =
