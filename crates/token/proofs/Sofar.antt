@@ -23,10 +23,10 @@ stands_within bs (state.InText f) at h = h.1
 pub within : (bs : List ℕ) (at m : ℕ) → m ≡ min at (length bs) → tokens_at bs m ≡ tokens_at bs at
 unfolding tokens_at lexed
 within bs at m h = elim (cases_lt at (length bs)) [
-  inl less ↦ ap (tokens_at bs) (omega arith)
+  | inl less ↦ ap (tokens_at bs) (omega arith)
   | inr more ↦
-    let last : m ≡ length bs = omega arith in
-    ap (tokens_at bs) last ∙ ap (λ l. toks (lexed (length bs) l)) (drop_of_length-le bs (omega arith)) ∙ sym (ap (λ l. toks (lexed at l)) (drop_of_length-le bs (omega arith)))
+      let last : m ≡ length bs = omega arith in
+      ap (tokens_at bs) last ∙ ap (λ l. toks (lexed (length bs) l)) (drop_of_length-le bs (omega arith)) ∙ sym (ap (λ l. toks (lexed at l)) (drop_of_length-le bs (omega arith)))
 ]
 
 pub toks_found : (bs : List ℕ) (at : ℕ) (f : Found) → lexed at (drop at bs) ≡ found bs f → tokens_at bs at ≡ toks (found bs f)

@@ -1,5 +1,5 @@
 -- What a reader of a text has before it.
-use Rattle.std.specs.Prelude.{◌≡◌, ℕ, ◌<◌, List, [], ◌∷◌, length, Some, None, Option}
+use Rattle.std.specs.Prelude.{◌≡◌, ℕ, ◌<◌, ◌≤◌, List, [], ◌∷◌, length, Some, None, Option}
 use Rattle.token.specs.declared.Placed.{Placed}
 use Rattle.token.specs.Tokens.{Tok, Sized, lexeme, shown, tokens_at}
 
@@ -26,3 +26,8 @@ Peeks now None = now.left ≡ []
 pub record Advances (old new : Ahead) : Type 0 where
   pub same_text : new.end ≡ old.end
   pub fewer : length new.left < length old.left
+
+-- some tokens were taken, or none
+pub record AdvancesOrStays (old new : Ahead) : Type 0 where
+  pub same_text : new.end ≡ old.end
+  pub no_more : length new.left ≤ length old.left

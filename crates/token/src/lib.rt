@@ -3,7 +3,7 @@
 
 ghost use Rattle.std.specs.Prelude.{◌≡◌, ◌≤◌, length, drop};
 ghost use Rattle.token.specs.Classes.{mark_class, byte_class, class_of};
-ghost use Rattle.token.specs.Tokens.{lexeme, width_of, word_of, allowed_body, Standing, resumed, after, Moves, lexed, found, Onward, NextIs, bad_token};
+ghost use Rattle.token.specs.Tokens.{lexeme, is_mark, is_operator, width_of, word_of, allowed_body, Standing, resumed, after, Moves, lexed, found, Onward, NextIs, bad_token};
 ghost use Rattle.token.specs.Laid.{TokensStand};
 
 use strings::decoded_len;
@@ -47,6 +47,28 @@ pub enum Token<'a> {
     Mark(Mark),
     Eoi,
     Guard,
+}
+
+impl<'a> Token<'a> {
+    /// Whether the token is the mark.
+    pub fn is_mark(self, wanted: Mark) -> bool
+        ensures { result ≡ is_mark wanted (lexeme self.entry) }
+    {
+        match self {
+            Token::Mark(mark) => mark == wanted,
+            _ => false,
+        }
+    }
+
+    /// Whether the token is the operator.
+    pub fn is_operator(self, wanted: Op) -> bool
+        ensures { result ≡ is_operator wanted (lexeme self.entry) }
+    {
+        match self {
+            Token::Operator(op) => op == wanted,
+            _ => false,
+        }
+    }
 }
 
 #[derive(Clone, Copy, Debug)]
