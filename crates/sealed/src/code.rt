@@ -1,4 +1,4 @@
-use meaning::Op;
+use operators::Op;
 
 /// A part or an operator of an expression, each operator behind its two sides.
 #[derive(Clone, Copy)]
