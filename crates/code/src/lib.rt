@@ -12,7 +12,7 @@ mod name;
 
 pub use name::Name;
 
-#[derive(Clone, Copy)]
+#[derive(Clone, Drop)]
 pub enum Code {
     Number(u64),
     Eoi,

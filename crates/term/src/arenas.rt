@@ -2,7 +2,7 @@ use arena::{Arena, Ends, Span};
 use code::{Code, Name};
 
 // A term, whose expressions are parts of the code, and a literal's bytes a part of the bytes.
-#[derive(Clone, Copy)]
+#[derive(Drop)]
 pub enum Term {
     Literal(Span, Ends),
     Call(Name, Ends),
@@ -12,7 +12,7 @@ pub enum Term {
 }
 
 // A rule: its name, the name's place in the text, and its part of the alternatives.
-#[derive(Clone, Copy)]
+#[derive(Drop)]
 pub struct Rule {
     pub name: Name,
     pub place: usize,

@@ -4,7 +4,7 @@ ghost use Rattle.arena.specs.Bounded.{stored, upto};
 use super::Arena;
 use std::alloc::{AllocError, Global};
 
-impl<T: Copy + Drop, const N: usize> Arena<T, N> {
+impl<T: Drop, const N: usize> Arena<T, N> {
     // An empty arena, with the room for all it will hold.
     pub fn new(heap: Global) -> Result<Arena<T, N>, AllocError>
         ensures { IfOk result (λ a. stored a ≡ []) }
