@@ -1,7 +1,7 @@
 -- One turn of the loop over the items of a chain, what a bracket opens, and what is appended.
 use Rattle.std.proofs.Common.{◌≡◌, ℕ, zero, suc, ◌-◌, ◌<◌, ◌≤◌, List, [], ◌∷◌, ◌++◌, length, take, Some, None, Ok, Err, Result, sym, refl, ap, ◌∙◌, subst, append_assoc, append-nil, arith}
 use Rattle.token.specs.declared.Mark.TheVariants.{Open, Close, Dot}
-use Rattle.token.specs.declared.Op.{Op}
+use Rattle.operators.specs.declared.Op.{Op}
 use Rattle.token.specs.Tokens.{Tok}
 use Rattle.token.specs.Tokens as lexeme
 use Rattle.arena.specs.declared.store.Arena.{Arena}

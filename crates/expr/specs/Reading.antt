@@ -3,8 +3,8 @@ use Rattle.std.specs.Prelude.{◌≡◌, ℕ, zero, suc, Bool, true, false, cond
 use Rattle.std.specs.Option.{option_map}
 use Rattle.token.specs.declared.Mark.{Mark}
 use Rattle.token.specs.declared.Mark.TheVariants as mark
-use Rattle.token.specs.declared.Op.{Op}
-use Rattle.token.specs.declared.Op.TheVariants as op
+use Rattle.operators.specs.declared.Op.{Op}
+use Rattle.operators.specs.declared.Op.TheVariants as op
 use Rattle.token.specs.Tokens.{Lexeme, Tok, same_mark, is_mark}
 use Rattle.token.specs.declared.Placed.{Placed}
 use Rattle.token.specs.Ahead.{Ahead, Takes}
@@ -36,12 +36,12 @@ and_then (deep p) k = deep p
 -- ---- operators
 abbrev pub level_of : Op → Level
 level_of op.Equal = level.Compare
-level_of op.Below = level.Compare
+level_of op.Less = level.Compare
 level_of op.Plus = level.Sum
 level_of op.Minus = level.Sum
 level_of op.Times = level.Product
-level_of op.Over = level.Product
-level_of op.Rest = level.Product
+level_of op.Divide = level.Product
+level_of op.Remainder = level.Product
 level_of op.Shift = level.Product
 
 abbrev pub same_level : Level → Level → Bool

@@ -9,7 +9,8 @@ ghost use Rattle.expr.specs.Reading.{level_of, TakesOperator, field_at, ReadsFie
 
 use arena::Arena;
 use code::{Code, Name, emit};
-use token::{Mark, Op, Token, Tokens};
+use operators::Op;
+use token::{Mark, Token, Tokens};
 
 mod taking;
 
@@ -36,9 +37,9 @@ fn level_of(op: Op) -> Level
     ensures { result ≡ level_of op }
 {
     match op {
-        Op::Equal | Op::Below => Level::Compare,
+        Op::Equal | Op::Less => Level::Compare,
         Op::Plus | Op::Minus => Level::Sum,
-        Op::Times | Op::Over | Op::Rest | Op::Shift => Level::Product,
+        Op::Times | Op::Divide | Op::Remainder | Op::Shift => Level::Product,
     }
 }
 

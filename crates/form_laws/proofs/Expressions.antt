@@ -2,7 +2,7 @@
 use Rattle.std.proofs.Common.{◌≡◌, ℕ, zero, suc, ◌≤◌, Bool, true, false, cond, ◌&&◌, List, [], ◌∷◌, ◌++◌, length, Some, None, Option, sym, refl, ap, ◌∙◌, subst, append_assoc, append-nil, arith}
 use Rattle.token.specs.declared.Mark.{Mark}
 use Rattle.token.specs.declared.Mark.TheVariants as mark
-use Rattle.token.specs.declared.Op.{Op}
+use Rattle.operators.specs.declared.Op.{Op}
 use Rattle.token.specs.Tokens.{Tok, Lexeme, is_mark, same_mark}
 use Rattle.token.specs.Tokens as lexeme
 use Rattle.expr.specs.declared.Level.{Level}

@@ -6,12 +6,12 @@ use Rattle.strings.specs.Decoding.{decode, decoded_length, or_empty, bytes_of}
 use Rattle.token.specs.Classes.{byte_class, class_of}
 use Rattle.token.specs.declared.Class.{Class}
 use Rattle.token.specs.declared.Class.TheVariants as class
-use Rattle.token.specs.declared.Op.{Op}
-use Rattle.token.specs.declared.Op.TheVariants as op
+use Rattle.operators.specs.declared.Op.{Op}
+use Rattle.operators.specs.declared.Op.TheVariants as op
 use Rattle.token.specs.Tokens.{refused, cons, text, number, eoi, guard, name, Sized, few_bytes, front, back, word_of, value, allowed_body, Rest, text_end, run, mark, operator, name_byte, number_byte, text_byte, width_of, start, lex, lexed}
 
 -- << and < differ in no test that treats all operators alike
-pub same_class : {X : Type 0} (t : Class → X) → t (class.Operator op.Shift) ≡ t (class.Operator op.Below) → (b : ℕ) (bs : List ℕ) → t (class_of (b ∷ bs)) ≡ t (byte_class b)
+pub same_class : {X : Type 0} (t : Class → X) → t (class.Operator op.Shift) ≡ t (class.Operator op.Less) → (b : ℕ) (bs : List ℕ) → t (class_of (b ∷ bs)) ≡ t (byte_class b)
 same_class t e b [] = refl
 same_class t e b (c ∷ bs) = go (eqb b 0x3C && eqb c 0x3C) refl
   where
@@ -25,7 +25,7 @@ same_class t e b (c ∷ bs) = go (eqb b 0x3C && eqb c 0x3C) refl
 abbrev by_class : (Class → Bool) → ℕ → Bool
 by_class t b = t (byte_class b)
 
-module _ (t : Class → Bool) (alike : t (class.Operator op.Shift) ≡ t (class.Operator op.Below)) (none : t class.End ≡ false) (end : List ℕ → Rest) (w : List ℕ) (at : ℕ) where
+module _ (t : Class → Bool) (alike : t (class.Operator op.Shift) ≡ t (class.Operator op.Less)) (none : t class.End ≡ false) (end : List ℕ → Rest) (w : List ℕ) (at : ℕ) where
   pub grows : (bs : List ℕ) → t (class_of bs) ≡ true → run end (by_class t) w at bs ≡ run end (by_class t) (w ++ take 1 bs) (at + 1) (drop 1 bs)
   grows [] h = absurd (clash none h)
     where
@@ -48,12 +48,12 @@ module _ (t : Class → Bool) (alike : t (class.Operator op.Shift) ≡ t (class.
 
 pub width_some : (o : Op) → 1 ≤ width_of o
 width_some op.Equal = omega arith
-width_some op.Below = omega arith
+width_some op.Less = omega arith
 width_some op.Plus = omega arith
 width_some op.Minus = omega arith
 width_some op.Times = omega arith
-width_some op.Over = omega arith
-width_some op.Rest = omega arith
+width_some op.Divide = omega arith
+width_some op.Remainder = omega arith
 width_some op.Shift = omega arith
 
 -- ---- the budget does not matter where it suffices

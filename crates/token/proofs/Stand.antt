@@ -4,8 +4,8 @@ use Rattle.std.proofs.lemmas.Bool.Decides.{nat_tests}
 use Rattle.strings.specs.Decoding.{bytes_of}
 use Rattle.token.specs.declared.Class.{Class}
 use Rattle.token.specs.declared.Class.TheVariants as class
-use Rattle.token.specs.declared.Op.{Op}
-use Rattle.token.specs.declared.Op.TheVariants as op
+use Rattle.operators.specs.declared.Op.{Op}
+use Rattle.operators.specs.declared.Op.TheVariants as op
 use Rattle.token.specs.Classes.{separator, letter, digit, mark_class, byte_class, class_of}
 use Rattle.token.specs.Tokens.{Lexeme, Lexed, done, refused, cons, text, number, operator, mark, front, back, name_byte, number_byte, text_byte, word_of, value, allowed_body, width_of, text_end, start, lexed}
 use Rattle.token.proofs.Laws.{unfolds, width_some}

@@ -8,8 +8,8 @@ use Rattle.token.specs.declared.Class.{Class}
 use Rattle.token.specs.declared.Class.TheVariants as class
 use Rattle.token.specs.declared.Mark.{Mark}
 use Rattle.token.specs.declared.Mark.TheVariants as mark_of
-use Rattle.token.specs.declared.Op.{Op}
-use Rattle.token.specs.declared.Op.TheVariants as op
+use Rattle.operators.specs.declared.Op.{Op}
+use Rattle.operators.specs.declared.Op.TheVariants as op
 use Rattle.token.specs.declared.State.{State}
 use Rattle.token.specs.declared.State.TheVariants as state
 use Rattle.token.specs.Tokens.{done, refused, cons, text, number, mark, operator, in_name, in_number, in_text, name_byte, number_byte, front, word_of, digit_in, value, allowed_body, width_of, name_end, number_end, text_end, name_from, number_from, text_from, start, lexed, part, resumed}
@@ -61,7 +61,7 @@ keeps t y false a b p q = q
 -- what holds of all the classes that one byte has
 module _ (t : Class → Bool) (y : Bool) (space : t class.Space ≡ y) (letters : t class.Letter ≡ y) (digits : (d : ℕ) → t (class.Digit d) ≡ y) (low : t class.Low ≡ y) (quote : t class.Quote ≡ y) (marks : (m : Mark) → t (class.Mark m) ≡ y) (operators : (o : Op) → width_of o ≡ 1 → t (class.Operator o) ≡ y) (other : t class.Other ≡ y) where
   mark_all : (b : ℕ) → t (mark_class b) ≡ y
-  mark_all b = keeps t y (eqb b 0x3A) _ _ (marks mark_of.Colon) (keeps t y (eqb b 0x5B) _ _ (marks mark_of.OpenSquare) (keeps t y (eqb b 0x5D) _ _ (marks mark_of.CloseSquare) (keeps t y (eqb b 0x28) _ _ (marks mark_of.Open) (keeps t y (eqb b 0x29) _ _ (marks mark_of.Close) (keeps t y (eqb b 0x7B) _ _ (marks mark_of.OpenCurly) (keeps t y (eqb b 0x7D) _ _ (marks mark_of.CloseCurly) (keeps t y (eqb b 0x2C) _ _ (marks mark_of.Comma) (keeps t y (eqb b 0x3B) _ _ (marks mark_of.Semicolon) (keeps t y (eqb b 0x2E) _ _ (marks mark_of.Dot) (keeps t y (eqb b 0x3D) _ _ (operators op.Equal refl) (keeps t y (eqb b 0x3C) _ _ (operators op.Below refl) (keeps t y (eqb b 0x2B) _ _ (operators op.Plus refl) (keeps t y (eqb b 0x2D) _ _ (operators op.Minus refl) (keeps t y (eqb b 0x2A) _ _ (operators op.Times refl) (keeps t y (eqb b 0x2F) _ _ (operators op.Over refl) (keeps t y (eqb b 0x25) _ _ (operators op.Rest refl) (other)))))))))))))))))
+  mark_all b = keeps t y (eqb b 0x3A) _ _ (marks mark_of.Colon) (keeps t y (eqb b 0x5B) _ _ (marks mark_of.OpenSquare) (keeps t y (eqb b 0x5D) _ _ (marks mark_of.CloseSquare) (keeps t y (eqb b 0x28) _ _ (marks mark_of.Open) (keeps t y (eqb b 0x29) _ _ (marks mark_of.Close) (keeps t y (eqb b 0x7B) _ _ (marks mark_of.OpenCurly) (keeps t y (eqb b 0x7D) _ _ (marks mark_of.CloseCurly) (keeps t y (eqb b 0x2C) _ _ (marks mark_of.Comma) (keeps t y (eqb b 0x3B) _ _ (marks mark_of.Semicolon) (keeps t y (eqb b 0x2E) _ _ (marks mark_of.Dot) (keeps t y (eqb b 0x3D) _ _ (operators op.Equal refl) (keeps t y (eqb b 0x3C) _ _ (operators op.Less refl) (keeps t y (eqb b 0x2B) _ _ (operators op.Plus refl) (keeps t y (eqb b 0x2D) _ _ (operators op.Minus refl) (keeps t y (eqb b 0x2A) _ _ (operators op.Times refl) (keeps t y (eqb b 0x2F) _ _ (operators op.Divide refl) (keeps t y (eqb b 0x25) _ _ (operators op.Remainder refl) (other)))))))))))))))))
 
   byte_all : (b : ℕ) → t (byte_class b) ≡ y
   byte_all b = keeps t y (separator b) _ _ space (keeps t y (letter b) _ _ letters (keeps t y (digit b) _ _ (digits (b - 0x30)) (keeps t y (eqb b 0x5F) _ _ low (keeps t y (eqb b 0x22) _ _ quote (mark_all b)))))
@@ -71,12 +71,12 @@ no_shift = byte_all shift false refl refl (λ _. refl) refl refl (λ _. refl) (�
 
 width_few : (o : Op) → width_of o ≤ 2
 width_few op.Equal = omega arith
-width_few op.Below = omega arith
+width_few op.Less = omega arith
 width_few op.Plus = omega arith
 width_few op.Minus = omega arith
 width_few op.Times = omega arith
-width_few op.Over = omega arith
-width_few op.Rest = omega arith
+width_few op.Divide = omega arith
+width_few op.Remainder = omega arith
 width_few op.Shift = omega arith
 
 pub wide_enough : (bs : List ℕ) (o : Op) → class_of bs ≡ class.Operator o → width_of o ≤ length bs

@@ -7,8 +7,8 @@ use Rattle.token.specs.declared.Class.{Class}
 use Rattle.token.specs.declared.Class.TheVariants as class
 use Rattle.token.specs.declared.Mark.{Mark}
 use Rattle.token.specs.declared.Mark.TheVariants as mark_of
-use Rattle.token.specs.declared.Op.{Op}
-use Rattle.token.specs.declared.Op.TheVariants as op
+use Rattle.operators.specs.declared.Op.{Op}
+use Rattle.operators.specs.declared.Op.TheVariants as op
 use Rattle.token.specs.declared.Placed.{Placed}
 use Rattle.token.specs.declared.State.{State}
 use Rattle.token.specs.declared.State.TheVariants as state
@@ -64,12 +64,12 @@ is_mark m guard = false
 
 abbrev pub op_code : Op → ℕ
 op_code op.Equal = 0
-op_code op.Below = 1
+op_code op.Less = 1
 op_code op.Plus = 2
 op_code op.Minus = 3
 op_code op.Times = 4
-op_code op.Over = 5
-op_code op.Rest = 6
+op_code op.Divide = 5
+op_code op.Remainder = 6
 op_code op.Shift = 7
 
 abbrev pub is_operator : Op → Lexeme → Bool
@@ -194,12 +194,12 @@ allowed_body w = few_bytes (decoded_length (decode w))
 
 abbrev pub width_of : Op → ℕ
 width_of op.Equal = 1
-width_of op.Below = 1
+width_of op.Less = 1
 width_of op.Plus = 1
 width_of op.Minus = 1
 width_of op.Times = 1
-width_of op.Over = 1
-width_of op.Rest = 1
+width_of op.Divide = 1
+width_of op.Remainder = 1
 width_of op.Shift = 2
 
 -- ---- the end of a token that began at `from` and has the bytes w, or the value v; bs stands at the place `at`, and `next` reads on from there

@@ -6,6 +6,7 @@ ghost use Rattle.token.specs.Classes.{mark_class, byte_class, class_of};
 ghost use Rattle.token.specs.Tokens.{lexeme, is_mark, is_operator, width_of, word_of, allowed_body, Standing, resumed, after, Moves, lexed, found, Onward, NextIs, bad_token};
 ghost use Rattle.token.specs.Laid.{TokensStand};
 
+use operators::Op;
 use strings::decoded_len;
 
 mod tokens;
@@ -24,18 +25,6 @@ pub enum Mark {
     Comma,
     Semicolon,
     Dot,
-}
-
-#[derive(Clone, Copy, PartialEq, Eq, Debug)]
-pub enum Op {
-    Equal,
-    Below,
-    Plus,
-    Minus,
-    Times,
-    Over,
-    Rest,
-    Shift,
 }
 
 #[derive(Clone, Copy, Debug)]
@@ -119,12 +108,12 @@ fn mark_class(b: u8) -> Class
         b';' => Class::Mark(Mark::Semicolon),
         b'.' => Class::Mark(Mark::Dot),
         b'=' => Class::Operator(Op::Equal),
-        b'<' => Class::Operator(Op::Below),
+        b'<' => Class::Operator(Op::Less),
         b'+' => Class::Operator(Op::Plus),
         b'-' => Class::Operator(Op::Minus),
         b'*' => Class::Operator(Op::Times),
-        b'/' => Class::Operator(Op::Over),
-        b'%' => Class::Operator(Op::Rest),
+        b'/' => Class::Operator(Op::Divide),
+        b'%' => Class::Operator(Op::Remainder),
         _ => Class::Other,
     }
 }
