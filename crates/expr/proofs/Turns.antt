@@ -32,9 +32,16 @@ grew_on a b c xs p g = (take (1025 - length a) xs ++ g.0, g.1 ∙ ap (λ l. l ++
 pub grew_by : (a b xs : List Piece) → b ≡ upto 1025 a xs → Grew a b
 grew_by a b xs p = (take (1025 - length a) xs, p)
 
--- the end of the text is the same further on
-pub there : (read : ℕ → Reader) (m n : ℕ) (toks rest : List Tok) (r : Result (Unit {0}) Refusal) (before later : List Piece) → m ≡ n → Wrote r (read m toks) rest before later → Wrote r (read n toks) rest before later
-there read m n toks rest r before later e told = subst (λ k. Wrote r (read k toks) rest before later) e told
+-- ---- the end of the text is the same further on
+module _ {m n : ℕ} (same : m ≡ n) where
+  pub there : (read : ℕ → Reader) (toks rest : List Tok) (r : Result (Unit {0}) Refusal) (before later : List Piece) → Wrote r (read m toks) rest before later → Wrote r (read n toks) rest before later
+  there read toks rest r before later told = subst (λ k. Wrote r (read k toks) rest before later) same told
+
+  pub reads_there : {X : Type 0} (read : ℕ → List Tok → Read X) (toks rest : List Tok) (x : X) → read m toks ≡ ok x rest → read n toks ≡ ok x rest
+  reads_there read toks rest x told = ap (λ k. read k toks) (sym same) ∙ told
+
+  pub refuses_there : {X : Type 0} (read : ℕ → List Tok → Read X) (toks : List Tok) (e : Refusal) → Refuses e (read m toks) → Refuses e (read n toks)
+  refuses_there read toks e told = subst (λ k. Refuses e (read k toks)) same told
 
 -- ---- what stands first
 -- an operator is followed by an item
