@@ -4,7 +4,8 @@ use Rattle.token.specs.declared.Mark.TheVariants as mark
 use Rattle.operators.specs.declared.Op.TheVariants as op
 use Rattle.token.specs.Tokens.{Tok, is_mark, is_operator}
 use Rattle.expr.specs.Reading.{Read, ok, form, and_then}
-use Rattle.term.specs.Form.{TermTree, mark_at, name_at, term_at}
+use Rattle.expr.specs.Reading.{mark_at, name_at}
+use Rattle.term.specs.Form.{TermTree, term_at}
 
 -- a rule by name: the name with its place, and the alternatives, each one or more terms
 pub record RuleTree : Type 0 where

@@ -4,7 +4,7 @@ ghost use Rattle.term.specs.Tables.{emit_term};
 ghost use Rattle.term.proofs.Puts.{term_kept};
 ghost use Rattle.rule.specs.Form.{RuleTree, at_stop, none_left, term_item, alternative_at, rule_at};
 ghost use Rattle.rule.specs.Emission.{emit_alternative, emit_rule};
-ghost use Rattle.rule.proofs.Adding.{alternative_kept, rule_kept};
+ghost use Rattle.rule.specs.Keeping.{alternative_kept, rule_kept};
 
 use super::branch_end;
 use super::item::{Item, add_all};
