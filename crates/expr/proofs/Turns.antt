@@ -1,6 +1,6 @@
 -- One turn of the loop over the items of a chain, what a bracket opens, and what is appended.
 use Rattle.std.proofs.Common.{◌≡◌, ℕ, zero, suc, ◌-◌, ◌<◌, ◌≤◌, List, [], ◌∷◌, ◌++◌, length, take, Some, None, Ok, Err, Result, sym, refl, ap, ◌∙◌, subst, append_assoc, append-nil, arith}
-use Rattle.token.specs.declared.Mark.TheVariants.{Open, Close, Dot}
+use Rattle.token.specs.declared.Mark.TheVariants.{Open, Close}
 use Rattle.operators.specs.declared.Op.{Op}
 use Rattle.token.specs.Tokens.{Tok}
 use Rattle.token.specs.Tokens as lexeme
@@ -15,9 +15,7 @@ use Rattle.expr.specs.declared.Level.TheVariants as level
 use Rattle.expr.specs.declared.Refusal.{Refusal}
 use Rattle.expr.specs.declared.Refusal.TheVariants.{Form, Deep}
 use Rattle.expr.specs.Trees.{Tree, bracketed, binary, encode}
-use Rattle.expr.specs.Trees as tree
-use Rattle.expr.specs.Reading as reading
-use Rattle.expr.specs.Reading.{Read, ok, form, Reader, and_then, operator_at, more, chain, compared, inner, part_at, sum_at, expression_at, mark_at, marked, operator_first, named_at, field_at, ReadsField, Refuses, Grew, Wrote}
+use Rattle.expr.specs.Reading.{Read, ok, Reader, and_then, operator_at, more, chain, compared, inner, part_at, expression_at, mark_at, operator_first, Refuses, Grew, Wrote}
 
 -- ---- what is appended
 pub same : (a : Arena Code 1025) → Grew (codes a) (codes a)

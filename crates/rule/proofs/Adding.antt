@@ -1,5 +1,5 @@
 -- How the tables grow by an alternative and by a rule.
-use Rattle.std.proofs.Common.{◌≡◌, ℕ, Bool, List, [], ◌∷◌, map, Ok, Err, Result, sym, ap, ◌∙◌, subst, arith}
+use Rattle.std.proofs.Common.{◌≡◌, ℕ, Bool, List, [], ◌∷◌, map, Ok, Err, Result, sym, ap, ◌∙◌, subst}
 use Rattle.token.specs.declared.Mark.TheVariants.{Colon}
 use Rattle.token.specs.Tokens.{Tok}
 use Rattle.expr.specs.declared.Refusal.{Refusal}

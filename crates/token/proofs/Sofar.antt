@@ -1,5 +1,5 @@
 -- Where the token reader stands.
-use Rattle.std.proofs.Common.{◌≡◌, ℕ, ◌<◌, ◌≤◌, min, List, [], ◌∷◌, length, drop, refl, sym, ap, ◌∙◌, inl, inr, arith, drop_of_length-le}
+use Rattle.std.proofs.Common.{◌≡◌, ℕ, ◌≤◌, min, List, ◌∷◌, length, drop, refl, sym, ap, ◌∙◌, inl, inr, arith, drop_of_length-le}
 use Rattle.std.proofs.lemmas.Bool.{cases_lt}
 use Rattle.token.specs.declared.Found.{Found}
 use Rattle.token.specs.declared.Placed.{Placed}

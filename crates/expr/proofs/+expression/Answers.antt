@@ -1,12 +1,11 @@
-use Rattle.std.proofs.Common.{◌≡◌, ◌≤◌, ◌-◌, length, ℕ, Ok, Err, sym, refl, ap, ◌∙◌, subst, arith, rules}
+use Rattle.std.proofs.Common.{◌≡◌, ◌≤◌, ◌-◌, length, Ok, Err, sym, ap, ◌∙◌, subst, arith, rules}
 use Rattle.std.proofs.lemmas.List.{take_all}
 use Rattle.std.proofs.lemmas.Result.{err_from_is_err_and}
 use Rattle.token.specs.Tokens.{shown}
 use Rattle.code.specs.Names.{letters}
 use Rattle.code.specs.Pieces.{codes}
-use Rattle.expr.specs.declared.Level.TheVariants.{Compare}
 use Rattle.expr.specs.Trees as tree
-use Rattle.expr.specs.Reading.{Wrote, Tells, Refuses, mark_at, named_at, sum_at, part_at, operand_at, joined_at, expression_at}
+use Rattle.expr.specs.Reading.{Wrote, mark_at, named_at, sum_at, part_at, operand_at, joined_at, expression_at}
 use Rattle.token.specs.declared.Mark.TheVariants.{Close}
 use Rattle.expr.proofs.Turns.{there, reads_there, refuses_there, begins, no_operator, item_refused, goes_on, second_refused, both_sides, bracket_refused, bracket_open, bracket_closed}
 use Rattle.expr.proofs.+expression.Goals as goal

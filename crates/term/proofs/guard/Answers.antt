@@ -12,7 +12,6 @@ use Rattle.term.specs.Form.{expr_at, equals_at}
 use Rattle.term.specs.Tables as entry
 use Rattle.term.specs.Tables.{tables, emit_term, span_of}
 use Rattle.term.proofs.Puts.{kept_code, put_entry, same_tables}
-use Rattle.code.specs.Names.{letters}
 use Rattle.term.proofs.guard.Goals as goal
 
 pub returns-in_err-span-clause-told : goal.returns-in_err-span-clause-told

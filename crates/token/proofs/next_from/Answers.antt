@@ -1,4 +1,4 @@
-use Rattle.std.proofs.Common.{ap, ◌∙◌, inl, inr, arith}
+use Rattle.std.proofs.Common.{ap, ◌∙◌, inl, inr}
 use Rattle.token.specs.Tokens.{toks, found}
 use Rattle.token.proofs.Sofar.{toks_found, toks_token}
 use Rattle.token.proofs.next_from.Goals as goal

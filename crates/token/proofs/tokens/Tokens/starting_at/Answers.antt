@@ -1,5 +1,4 @@
 use Rattle.std.proofs.Common.{length, ap}
-use Rattle.token.specs.Ahead.{Ahead}
 use Rattle.token.proofs.Sofar.{within}
 use Rattle.token.proofs.tokens.Tokens.starting_at.Goals as goal
 
