@@ -6,7 +6,8 @@ use Rattle.token.specs.Tokens.{Tok, Lexeme, is_mark, is_operator}
 use Rattle.token.specs.Tokens as lexeme
 use Rattle.expr.specs.declared.Refusal.{Refusal}
 use Rattle.expr.specs.Reading.{Refuses, Read, ok, form, and_then}
-use Rattle.term.specs.Form.{TermTree, name_at, term_at}
+use Rattle.expr.specs.Reading.{name_at}
+use Rattle.term.specs.Form.{TermTree, term_at}
 use Rattle.rule.specs.Form.{RuleTree, several, at_stop, none_left, term_item, terms_at, branch_end, alternative_at, alternatives_at, rule_at, rules_at}
 use Rattle.form_laws.specs.Grammar.{Writing, Term, a_literal, a_call, an_attribute, a_guard, Several, one, more, Parted, whole, parted, Rule, a_rule, Text}
 use Rattle.form_laws.specs.Law.{FormIsGrammar, RefusalsAreFirst}
