@@ -2,7 +2,8 @@ ghost use Rattle.std.specs.Prelude.{◌≡◌, ◌≤◌, length};
 ghost use Rattle.std.specs.Iterator.{item_count};
 ghost use Rattle.token.specs.Ahead.{Ahead, ahead, Takes, Peeks};
 
-use super::{Placed, next_from};
+use super::Placed;
+use super::scan::next_from;
 use std::marker::Model;
 
 /// The tokens of a text from a place on. They end before what is no token.
