@@ -14,7 +14,8 @@ use token::{Mark, Token, Tokens};
 
 mod taking;
 
-pub use taking::{mark, name, take, take_mark};
+use taking::take_mark;
+pub use taking::{mark, name, take};
 
 /// The operators that bind alike.
 #[derive(Clone, Copy, PartialEq, Eq, Debug)]

@@ -1,6 +1,5 @@
 ghost use Rattle.std.specs.Prelude.{◌≡◌, ◌+◌, ◌<◌, ◌≤◌, ◌^◌, ℕ, Bool, true, [], take, drop, length, SomeIff};
-ghost use Rattle.token.specs.declared.Class.TheVariants as class;
-ghost use Rattle.token.specs.Classes.{separator, byte_class, class_of};
+ghost use Rattle.token.specs.Classes.{separator, byte_class};
 ghost use Rattle.token.specs.Tokens.{name_byte, number_byte, text_byte, front, digit_in, value, width_of, allowed_body, lexeme, word_of, name_from, number_from, text_from, lexed, found, found_at, written, Onward, OnwardAt, Written, NextIs};
 ghost use Rattle.token.specs.Laid.{stops};
 
