@@ -11,10 +11,10 @@ pub emit_kept : {X : Type 0} (emit : Tables → X → Tables) → ((T : Tables) 
 emit_kept emit kept T [] = kept_same T
 emit_kept emit kept T (x ∷ xs) = kept_on T (emit T x) (emit_all emit (emit T x) xs) (kept T x) (emit_kept emit kept (emit T x) xs)
 
-put_alternative_kept : (T : Tables) (s : Span) → Kept T (with_alternative T s)
+pub put_alternative_kept : (T : Tables) (s : Span) → Kept T (with_alternative T s)
 put_alternative_kept T s = record { rules_kept = front_same T.rules; alternatives_kept = front_upto 97 T.alternatives (s ∷ []); terms_kept = front_same T.terms; bytes_kept = front_same T.bytes; code_kept = front_same T.code }
 
-put_rule_kept : (T : Tables) (r : Head) → Kept T (with_rule T r)
+pub put_rule_kept : (T : Tables) (r : Head) → Kept T (with_rule T r)
 put_rule_kept T r = record { rules_kept = front_upto 33 T.rules (r ∷ []); alternatives_kept = front_same T.alternatives; terms_kept = front_same T.terms; bytes_kept = front_same T.bytes; code_kept = front_same T.code }
 
 pub alternative_kept : (T : Tables) (ts : List TermTree) → Kept T (emit_alternative T ts)
