@@ -3,14 +3,19 @@ ghost use Rattle.input.specs.Bytes.{byte_at};
 ghost use Rattle.input.specs.Errata.{patch_answer, patched, undo_answer, undone, LatestShows};
 ghost use Rattle.input.specs.Benches.{errata, bench_shown};
 
-use super::Bench;
 use crate::Input;
 use crate::patch::Patch;
 use crate::refusal::Refusal;
+use arrayvec::ArrayVec;
 
 const MOST_PATCHES: usize = 32;
 
-const LONGEST_PATCH: usize = 8;
+/// The patch layer: an input that shows another with patches written over it, the oldest first.
+#[derive(Drop)]
+pub struct Bench<I> {
+    below: I,
+    patches: ArrayVec<Patch, MOST_PATCHES>,
+}
 
 impl<I: Input> Bench<I> {
     /// A new bench on an input: it has no errata.
@@ -18,11 +23,8 @@ impl<I: Input> Bench<I> {
         ensures below { result.below ≡ below }
         ensures errata { errata result ≡ [] }
     {
-        Bench {
-            below,
-            table: [Patch::blank(); 32],
-            count: 0,
-        }
+        let patches = ArrayVec::new();
+        Bench { below, patches }
     }
 
     /// Shows `bytes` from `place` on.
@@ -31,36 +33,24 @@ impl<I: Input> Bench<I> {
         ensures errata { errata self.new ≡ patched (length (I.Input.shown self.old.below).bytes) (errata self.old) place bytes.now }
         ensures below { self.new.below ≡ self.old.below }
     {
-        if bytes.is_empty() || bytes.len() > LONGEST_PATCH {
-            return Err(Refusal::PatchLength);
-        }
+        let patch = Patch::new(place, bytes)?;
         let end = self.below.len();
         if place > end || bytes.len() > end - place {
             return Err(Refusal::PatchPlace);
         }
-        if self.count == MOST_PATCHES {
-            return Err(Refusal::PatchesFull);
+        match self.patches.try_push(patch) {
+            Ok(()) => Ok(()),
+            Err(_) => Err(Refusal::PatchesFull),
         }
-        let i = self.count;
-        let table = &mut self.table;
-        table[i].write(place, bytes);
-        self.count = i + 1;
-        Ok(())
     }
 
-    /// Takes the latest patch off; its entry can be used again.
+    /// Takes the latest patch off.
     pub fn undo(&mut self) -> Result<(), Refusal>
         ensures answer { result ≡ undo_answer (errata self.old) }
         ensures errata { errata self.new ≡ undone (errata self.old) }
         ensures below { self.new.below ≡ self.old.below }
     {
-        if self.count == 0 {
-            return Err(Refusal::NoPatch);
-        }
-        let i = self.count - 1;
-        let table = &mut self.table;
-        table[i].clear();
-        self.count = i;
+        let _latest = self.patches.pop().ok_or(Refusal::NoPatch)?;
         Ok(())
     }
 
@@ -68,11 +58,7 @@ impl<I: Input> Bench<I> {
     pub fn into_below(self) -> I
         ensures { result ≡ self.below }
     {
-        let Bench {
-            below,
-            table: _,
-            count: _,
-        } = self;
+        let Bench { below, patches: _ } = self;
         below
     }
 }
@@ -85,12 +71,11 @@ impl<I: Input> Input for Bench<I> {
     }
 
     fn byte(&self, place: usize) -> Option<u8> {
-        let mut shown = self.below.byte(place)?;
-        for patch in &self.table[0..self.count] {
-            if let Some(patched) = patch.at(place) {
-                shown = patched;
-            }
-        }
+        let own = self.below.byte(place)?;
+        let shown = self
+            .patches
+            .iter()
+            .fold(own, |shown, patch| patch.at(place).unwrap_or(shown));
         Some(shown)
     }
 }
