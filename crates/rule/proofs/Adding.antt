@@ -8,7 +8,7 @@ use Rattle.expr.proofs.Turns.{refused_too}
 use Rattle.arena.specs.Bounded.{upto}
 use Rattle.arena.proofs.Bounds.{seen}
 use Rattle.term.specs.declared.arenas.Rule.{Rule}
-use Rattle.term.specs.declared.arenas.Span.{Span}
+use Rattle.arena.specs.declared.span.Span.{Span}
 use Rattle.term.specs.Form.{TermTree, name_at, mark_at}
 use Rattle.term.specs.Tables.{Tables, Head, head, Kept, between, emit_term}
 use Rattle.term.proofs.Puts.{kept_on, front_same, front_upto, term_kept}

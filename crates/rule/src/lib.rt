@@ -9,8 +9,9 @@ ghost use Rattle.rule.specs.Form.{at_stop, none_left, branch_end, term_item, ter
 ghost use Rattle.rule.specs.Emission.{emit_all, emit_alternative, emit_rule};
 ghost use Rattle.rule.specs.Reading.{Ends, AddsItem};
 
+use arena::Span;
 use expr::Refusal;
-use term::{Arenas, Rule, Span, add_term, after_mark, name};
+use term::{Arenas, Rule, add_term, after_mark, name};
 use token::{Mark, Op, Token, next};
 
 // Whether an alternative ends here.

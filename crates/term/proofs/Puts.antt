@@ -5,7 +5,7 @@ use Rattle.arena.proofs.Bounds.{seen}
 use Rattle.code.specs.Pieces.{Piece}
 use Rattle.expr.specs.Trees.{Tree}
 use Rattle.expr.specs.Reading.{Grew}
-use Rattle.term.specs.declared.arenas.Span.{Span}
+use Rattle.arena.specs.declared.span.Span.{Span}
 use Rattle.term.specs.declared.arenas.Term.{Term}
 use Rattle.term.specs.Form.{TermTree}
 use Rattle.term.specs.Form as tree

@@ -7,8 +7,8 @@ use Rattle.code.specs.Pieces.{Piece}
 use Rattle.expr.specs.declared.Refusal.{Refusal}
 use Rattle.expr.specs.Trees.{Tree}
 use Rattle.expr.specs.Reading.{Read, ok, Refuses, Grew}
-use Rattle.term.specs.declared.arenas.Ends.{Ends}
-use Rattle.term.specs.declared.arenas.Span.{Span}
+use Rattle.arena.specs.declared.span.Ends.{Ends}
+use Rattle.arena.specs.declared.span.Span.{Span}
 use Rattle.term.specs.Tables.{Tables, Kept, code_after, span_of, ends_of}
 
 -- the place after a mark

@@ -5,9 +5,9 @@ use Rattle.code.specs.Names.{letters}
 use Rattle.code.specs.Pieces.{Piece, codes}
 use Rattle.expr.specs.Trees.{Tree, encode}
 use Rattle.term.specs.declared.arenas.Arenas.{Arenas}
-use Rattle.term.specs.declared.arenas.Ends.{Ends}
+use Rattle.arena.specs.declared.span.Ends.{Ends}
 use Rattle.term.specs.declared.arenas.Rule.{Rule}
-use Rattle.term.specs.declared.arenas.Span.{Span}
+use Rattle.arena.specs.declared.span.Span.{Span}
 use Rattle.term.specs.declared.arenas.Term.{Term}
 use Rattle.term.specs.declared.arenas.Term.TheVariants as term
 use Rattle.term.specs.Form.{TermTree}

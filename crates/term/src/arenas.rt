@@ -1,19 +1,5 @@
-use arena::Arena;
+use arena::{Arena, Ends, Span};
 use code::{Code, Name};
-
-// A part of an arena, from one place up to another.
-#[derive(Clone, Copy)]
-pub struct Span {
-    pub from: usize,
-    pub to: usize,
-}
-
-// The code of a window's two ends.
-#[derive(Clone, Copy)]
-pub struct Ends {
-    pub left: Span,
-    pub right: Span,
-}
 
 // A term, whose expressions are parts of the code, and a literal's bytes a part of the bytes.
 #[derive(Drop)]

@@ -10,7 +10,7 @@ ghost use Rattle.term.specs.Form.{expr_at, mark_at, equals_at, name_at, range_at
 ghost use Rattle.term.specs.Tables.{tables, emit_term};
 ghost use Rattle.term.specs.Reading.{Tells, Names, Spanned, Ranged, Adds};
 
-use arena::Arena;
+use arena::{Arena, Ends, Span};
 use code::{Code, Name};
 use expr::{Refusal, expression};
 use strings::decode_into;
@@ -18,7 +18,7 @@ use token::{Mark, Op, Token, next};
 
 mod arenas;
 
-pub use arenas::{Arenas, Ends, Rule, Span, Term};
+pub use arenas::{Arenas, Rule, Term};
 
 // How deep the brackets of an expression nest at most.
 const DEPTH: usize = 16;

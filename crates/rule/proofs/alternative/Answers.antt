@@ -2,7 +2,7 @@ use Rattle.std.proofs.Common.{◌≡◌, length, sym, ◌∙◌}
 use Rattle.std.proofs.lemmas.List.{length-map}
 use Rattle.arena.specs.Bounded.{stored}
 use Rattle.token.specs.Tokens.{tokens_at}
-use Rattle.term.specs.declared.arenas.Span.{Span}
+use Rattle.arena.specs.declared.span.Span.{Span}
 use Rattle.term.specs.Tables.{tables, entry, between}
 use Rattle.rule.proofs.Adding.{is_alternative, alternative_ends, sooner_pair}
 use Rattle.rule.proofs.alternative.Goals as goal

@@ -3,7 +3,7 @@ use Rattle.arena.specs.Bounded.{stored}
 use Rattle.token.specs.Tokens.{tokens_at}
 use Rattle.code.specs.Names.{letters}
 use Rattle.expr.specs.Reading.{ok}
-use Rattle.term.specs.declared.arenas.Span.{Span}
+use Rattle.arena.specs.declared.span.Span.{Span}
 use Rattle.term.specs.Tables.{Head, tables, between}
 use Rattle.rule.specs.Form.{RuleTree}
 use Rattle.rule.proofs.Adding.{is_rule, rule_reads, put_head}

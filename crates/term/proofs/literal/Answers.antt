@@ -8,7 +8,7 @@ use Rattle.term.specs.Tables as entry
 use Rattle.term.specs.Tables.{tables, emit_term, between, bytes_after, span_of, ends_of}
 use Rattle.term.proofs.Puts.{kept_code, put_entry, same_tables}
 use Rattle.strings.specs.Decoding.{bytes_of}
-use Rattle.term.specs.declared.arenas.Span.{Span}
+use Rattle.arena.specs.declared.span.Span.{Span}
 use Rattle.term.proofs.literal.Goals as goal
 
 pub returns-in_err-ends : goal.returns-in_err-ends

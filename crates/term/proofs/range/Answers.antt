@@ -3,7 +3,7 @@ use Rattle.std.proofs.lemmas.Result.{err_from_is_err_and}
 use Rattle.code.specs.Pieces.{codes}
 use Rattle.expr.specs.Trees.{encode}
 use Rattle.expr.proofs.Turns.{same, grew_by, grew_on}
-use Rattle.term.specs.declared.arenas.Ends.{Ends}
+use Rattle.arena.specs.declared.span.Ends.{Ends}
 use Rattle.term.specs.Tables.{code_after, span_of, ends_of}
 use Rattle.term.proofs.range.Goals as goal
 

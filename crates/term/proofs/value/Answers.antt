@@ -2,7 +2,7 @@ use Rattle.std.proofs.Common.{◌≡◌, length, sym, ap, ◌∙◌}
 use Rattle.std.proofs.lemmas.List.{length-map}
 use Rattle.arena.specs.Bounded.{stored}
 use Rattle.code.specs.Pieces.{piece, codes}
-use Rattle.term.specs.declared.arenas.Span.{Span}
+use Rattle.arena.specs.declared.span.Span.{Span}
 use Rattle.term.specs.Tables.{span_of}
 use Rattle.term.proofs.value.Goals as goal
 
