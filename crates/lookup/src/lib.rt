@@ -26,7 +26,7 @@ pub fn rule_number(rules: &[Rule], name: &[u8]) -> Option<usize>
 pub fn callee(rules: &Arena<Rule, 33>, name: &[u8]) -> Option<u16>
     ensures { result ≡ callee (head_names (map head (stored rules.now))) name.now }
 {
-    rule_number(rules.all(), name)
+    rule_number(rules.as_slice(), name)
         .map(|number| number as u16)
         .or_else(|| reader_number(name))
 }
