@@ -2,10 +2,10 @@
 use Rattle.std.specs.Prelude.{◌≡◌, ℕ, ◌≤◌, cond, List, ◌++◌, length, Some, None, Ok, Err, Option, Result, nat_lt}
 use Rattle.token.specs.Tokens.{tokens_at, bad_token}
 use Rattle.expr.specs.Reading.{Read, ok, form, deep}
-use Rattle.term.specs.Tables.{Tables}
+use Rattle.term.specs.Tables.{Tables, Kept}
 use Rattle.rule.specs.Form.{RuleTree, rules_at}
-use Rattle.draft.specs.declared.load.Refused.{Refused}
-use Rattle.draft.specs.declared.load.Refused.TheVariants as refused_by
+use Rattle.draft.specs.declared.refused.Refused.{Refused}
+use Rattle.draft.specs.Refusing.{refused_number, refused_place}
 use Rattle.draft.specs.Limits.{counts, few_enough}
 use Rattle.draft.specs.Shown.{rules_of}
 use Rattle.draft.specs.Cutting.{sizes_of}
@@ -41,11 +41,7 @@ numbers (refused n p) = (n, p)
 
 abbrev pub outcome : Result (Unit {0}) Refused → ℕ × ℕ
 outcome (Ok u) = (0, 0)
-outcome (Err refused_by.TooLong) = (1, 0)
-outcome (Err (refused_by.Token p)) = (2, p)
-outcome (Err (refused_by.Form p)) = (3, p)
-outcome (Err (refused_by.Deep p)) = (4, p)
-outcome (Err refused_by.Limit) = (5, 0)
+outcome (Err e) = (refused_number e, refused_place e)
 
 -- no part reaches past what stands in its table, and the tables hold what the rules take and no more
 pub record Whole (T : Tables) : Type 0 where
@@ -63,6 +59,11 @@ pub record Taken (r : Result (Unit {0}) Refused) (want : Answer) (T U : Tables) 
 
 abbrev pub ReadsForm : List ℕ → Result (Unit {0}) Refused → Tables → Tables → Type 0
 ReadsForm text r T U = Whole T → Taken r (by_form (rules_of T) (rules_at (length text) (tokens_at text 0))) T U
+
+-- the same of tables that are cut back after a refusal: until then more may stand in them
+abbrev pub Reads : List ℕ → Result (Unit {0}) Refused → Tables → Tables → Type 0
+Reads text (Ok u) T U = ReadsForm text (Ok u) T U
+Reads text (Err e) T U = Whole T → Taken (Err e) (by_form (rules_of T) (rules_at (length text) (tokens_at text 0))) T T × Kept T U
 
 abbrev pub Loads : List ℕ → Result (Unit {0}) Refused → Tables → Tables → Type 0
 Loads text r T U = Whole T → Taken r (answer (rules_of T) text) T U

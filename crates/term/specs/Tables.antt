@@ -45,6 +45,10 @@ pub record Tables : Type 0 where
 abbrev pub tables : Arenas → Tables
 tables a = record { rules = map head (stored a.rules); alternatives = stored a.alternatives; terms = map entry (stored a.terms); bytes = stored a.bytes; code = codes a.code }
 
+-- the tables of a draft without rules
+abbrev pub blank : Tables
+blank = record { rules = []; alternatives = []; terms = []; bytes = []; code = [] }
+
 -- ---- what is appended, as far as there is room
 -- the part that was appended
 abbrev pub between : {X : Type 0} → List X → List X → Span

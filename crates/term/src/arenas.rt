@@ -1,5 +1,9 @@
+ghost use Rattle.std.specs.Prelude.{◌≡◌, IfOk};
+ghost use Rattle.term.specs.Tables.{tables, blank};
+
 use arena::{Arena, Ends, Span};
 use code::{Code, Name};
+use std::alloc::{AllocError, Global};
 
 // A term, whose expressions are parts of the code, and a literal's bytes a part of the bytes.
 #[derive(Drop)]
@@ -27,4 +31,19 @@ pub struct Arenas {
     pub terms: Arena<Term, 257>,
     pub bytes: Arena<u8, 513>,
     pub code: Arena<Code, 1025>,
+}
+
+impl Arenas {
+    // Empty arenas, with the room for all that they will hold.
+    pub fn new(heap: Global) -> Result<Arenas, AllocError>
+        ensures { IfOk result (λ arenas. tables arenas ≡ blank) }
+    {
+        Ok(Arenas {
+            rules: Arena::new(heap)?,
+            alternatives: Arena::new(heap)?,
+            terms: Arena::new(heap)?,
+            bytes: Arena::new(heap)?,
+            code: Arena::new(heap)?,
+        })
+    }
 }

@@ -30,14 +30,14 @@ impl<T: Drop, const N: usize> Arena<T, N> {
     }
 
     // Cuts the list back to its first n items.
-    pub fn cut(&mut self, n: usize)
+    pub fn truncate(&mut self, n: usize)
         ensures { stored self.new ≡ take n (stored self.old) }
     {
         self.items.truncate(n);
     }
 
     // The items, the oldest first.
-    pub fn all(&self) -> &[T]
+    pub fn as_slice(&self) -> &[T]
         ensures { result.now ≡ stored self.now }
     {
         self.items.as_slice()

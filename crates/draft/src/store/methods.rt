@@ -2,9 +2,9 @@ ghost use Rattle.std.specs.Prelude.{◌≡◌, List, [], IfOk};
 ghost use Rattle.draft.specs.Held.{held};
 ghost use Rattle.draft.specs.Loading.{answer, after, numbers, outcome};
 
-use super::super::load::{Refused, load};
+use super::super::load::load;
+use super::super::refused::Refused;
 use super::Draft;
-use arena::Arena;
 use std::alloc::{AllocError, Global};
 use term::Arenas;
 
@@ -13,18 +13,7 @@ impl Draft {
     pub fn new(heap: Global) -> Result<Draft, AllocError>
         ensures { IfOk result (λ d. held d ≡ []) }
     {
-        let rules = Arena::new(heap)?;
-        let alternatives = Arena::new(heap)?;
-        let terms = Arena::new(heap)?;
-        let bytes = Arena::new(heap)?;
-        let code = Arena::new(heap)?;
-        let arenas = Arenas {
-            rules,
-            alternatives,
-            terms,
-            bytes,
-            code,
-        };
+        let arenas = Arenas::new(heap)?;
         Ok(Draft { arenas })
     }
 

@@ -1,5 +1,6 @@
 -- The names that stored rules and terms have.
-use Rattle.std.specs.Prelude.{ℕ, List, map, Some, None, Option}
+use Rattle.std.specs.Prelude.{ℕ, Bool, false, List, map, Some, None, Option}
+use Rattle.std.specs.Str.{bytes_eq}
 use Rattle.term.specs.Tables.{Head, Entry}
 use Rattle.term.specs.Tables as entry
 
@@ -19,3 +20,8 @@ sets_entry (entry.literal s e) = None
 sets_entry (entry.call w e) = None
 sets_entry (entry.attribute p w s) = Some w
 sets_entry (entry.guard s) = None
+
+-- whether there is a name, and it is w
+abbrev pub is_name : Option (List ℕ) → List ℕ → Bool
+is_name None w = false
+is_name (Some v) w = bytes_eq v w
