@@ -6,7 +6,7 @@ ghost use Rattle.arena.specs.Bounded.{upto};
 ghost use Rattle.code.specs.Pieces.{piece, codes};
 
 use arena::Arena;
-use token::Op;
+use operators::Op;
 
 mod name;
 

@@ -2,13 +2,13 @@
 use Rattle.std.proofs.Common.{◌≡◌, ℕ, Bool, true, false, cond, ◌&&◌, List, [], ◌∷◌, ◌++◌, sym, refl, ap, subst}
 use Rattle.token.specs.declared.Mark.{Mark}
 use Rattle.token.specs.declared.Mark.TheVariants as mark
-use Rattle.token.specs.declared.Op.TheVariants as op
+use Rattle.operators.specs.declared.Op.TheVariants as op
 use Rattle.token.specs.Tokens.{Tok, Lexeme, is_mark, same_mark, is_operator}
 use Rattle.token.specs.Tokens as lexeme
 use Rattle.expr.specs.Trees.{Tree}
 use Rattle.expr.specs.declared.Refusal.{Refusal}
-use Rattle.expr.specs.Reading.{Refuses, ok, form, and_then}
-use Rattle.term.specs.Form.{TermTree, mark_at, equals_at, name_at, expr_at, range_at, attribute_at, guard_at, term_at}
+use Rattle.expr.specs.Reading.{Refuses, ok, form, and_then, mark_at, name_at}
+use Rattle.term.specs.Form.{TermTree, equals_at, expr_at, range_at, attribute_at, guard_at, term_at}
 use Rattle.term.specs.Form as term
 use Rattle.form_laws.specs.Grammar.{Writing, Expression, Window, a_window, Term, a_literal, a_call, an_attribute, a_guard}
 use Rattle.form_laws.proofs.Right.{Stuck, never_refused, stuck_end, stuck_token, stuck_shift, stuck_by, never_form, ok_value, ok_rest, Reads, Right, Any, right_by, Seq, seq, seq_right, Done, done, done_right, Mapped, mapped, mapped_right, the, Token, token_right}

@@ -3,8 +3,8 @@ use Rattle.std.proofs.Common.{◌≡◌, ℕ, true, cond, eqb, sym, refl, ap, �
 use Rattle.std.proofs.lemmas.Bool.Decides.{nat_tests}
 use Rattle.token.specs.declared.Mark.{Mark}
 use Rattle.token.specs.declared.Mark.TheVariants as mark
-use Rattle.token.specs.declared.Op.{Op}
-use Rattle.token.specs.declared.Op.TheVariants as op
+use Rattle.operators.specs.declared.Op.{Op}
+use Rattle.operators.specs.declared.Op.TheVariants as op
 use Rattle.token.specs.Tokens.{Lexeme, mark_code, same_mark, is_mark, op_code, is_operator}
 use Rattle.token.specs.Tokens as lexeme
 use Rattle.form_laws.proofs.Right.{never_true}
@@ -33,16 +33,16 @@ mark_back mark.Dot = refl
 
 -- an operator by its code
 abbrev op_of : ℕ → Op
-op_of n = cond (eqb n 0) op.Equal (cond (eqb n 1) op.Below (cond (eqb n 2) op.Plus (cond (eqb n 3) op.Minus (cond (eqb n 4) op.Times (cond (eqb n 5) op.Over (cond (eqb n 6) op.Rest op.Shift))))))
+op_of n = cond (eqb n 0) op.Equal (cond (eqb n 1) op.Less (cond (eqb n 2) op.Plus (cond (eqb n 3) op.Minus (cond (eqb n 4) op.Times (cond (eqb n 5) op.Divide (cond (eqb n 6) op.Remainder op.Shift))))))
 
 op_back : (o : Op) → o ≡ op_of (op_code o)
 op_back op.Equal = refl
-op_back op.Below = refl
+op_back op.Less = refl
 op_back op.Plus = refl
 op_back op.Minus = refl
 op_back op.Times = refl
-op_back op.Over = refl
-op_back op.Rest = refl
+op_back op.Divide = refl
+op_back op.Remainder = refl
 op_back op.Shift = refl
 
 pub mark_is : (m : Mark) (k : Lexeme) → is_mark m k ≡ true → k ≡ lexeme.mark m
