@@ -9,8 +9,7 @@ use Rattle.term.specs.Tables.{Tables, Head, Entry, Kept, Front, tables, blank}
 use Rattle.token.specs.Tokens.{Tok, tokens_at, bad_token}
 use Rattle.rule.specs.Form.{RuleTree, rules_at}
 use Rattle.rule.specs.Emission.{emit_all, emit_rule}
-use Rattle.rule.proofs.Several.{emit_kept}
-use Rattle.rule.proofs.Adding.{rule_kept}
+use Rattle.rule.specs.Keeping.{emit_kept, rule_kept}
 use Rattle.draft.specs.declared.counts.Counts.{Counts}
 use Rattle.draft.specs.declared.refused.Refused.{Refused}
 use Rattle.draft.specs.declared.refused.Refused.TheVariants as refused_by

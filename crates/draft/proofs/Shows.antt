@@ -16,8 +16,7 @@ use Rattle.term.specs.Tables as entry
 use Rattle.term.proofs.Puts.{front_upto, grew_both, front_same, term_kept}
 use Rattle.rule.specs.Form.{RuleTree}
 use Rattle.rule.specs.Emission.{emit_all, emit_alternative, emit_rule, with_alternative, with_rule}
-use Rattle.rule.proofs.Several.{emit_kept}
-use Rattle.rule.proofs.Adding.{put_alternative_kept, put_rule_kept, alternative_kept, rule_kept}
+use Rattle.rule.specs.Keeping.{emit_kept, put_alternative_kept, put_rule_kept, alternative_kept, rule_kept}
 use Rattle.draft.specs.Shown.{stack_after, top, tree_of, shown_term, terms_of, alternatives_of, shown_rule, rules_of}
 use Rattle.draft.specs.Reach.{most, code_end, bytes_end, span_end, head_end}
 use Rattle.draft.proofs.Parts.{most_append, map_kept}

@@ -7,7 +7,7 @@ use super::counts::Counts;
 use super::refused::Refused;
 use rule::add_rules;
 use term::Arenas;
-use token::bad_token;
+use token::{Tokens, bad_token};
 
 // The most bytes that a text has.
 const TEXT_LIMIT: usize = 65536;
@@ -27,7 +27,7 @@ fn cut(arenas: &mut Arenas, lengths: Counts)
 fn read(text: &[u8], out: &mut Arenas) -> Result<(), Refused>
     ensures { Reads text.now result (tables out.old) (tables out.new) }
 {
-    add_rules(text, 0, out)?;
+    add_rules(&mut Tokens::new(text), out)?;
     if Counts::of(out).fit() {
         Ok(())
     } else {
