@@ -46,23 +46,13 @@ level_of op.Shift = level.Product
 
 abbrev pub same_level : Level → Level → Bool
 same_level level.Compare level.Compare = true
-same_level level.Compare level.Sum = false
-same_level level.Compare level.Product = false
-same_level level.Sum level.Compare = false
 same_level level.Sum level.Sum = true
-same_level level.Sum level.Product = false
-same_level level.Product level.Compare = false
-same_level level.Product level.Sum = false
 same_level level.Product level.Product = true
+same_level _ _ = false
 
 abbrev pub operator_at : Level → Lexeme → Option Op
-operator_at l (lexeme.name w) = None
-operator_at l (lexeme.text w) = None
-operator_at l (lexeme.number n) = None
 operator_at l (lexeme.operator o) = cond (same_level (level_of o) l) (Some o) None
-operator_at l (lexeme.mark m) = None
-operator_at l lexeme.eoi = None
-operator_at l lexeme.guard = None
+operator_at l _ = None
 
 -- ---- items joined by operators of one level, grouped from the left
 abbrev pub more : Reader → Level → ℕ → Tree → Reader
@@ -89,12 +79,7 @@ mark_at m end (t ∷ ts) = cond (is_mark m t.1) (ok tt ts) (form t.0)
 
 abbrev pub name_of : Lexeme → ℕ → List Tok → Read (ℕ × List ℕ)
 name_of (lexeme.name w) p ts = ok (p, w) ts
-name_of (lexeme.text w) p ts = form p
-name_of (lexeme.number n) p ts = form p
-name_of (lexeme.operator o) p ts = form p
-name_of (lexeme.mark m) p ts = form p
-name_of lexeme.eoi p ts = form p
-name_of lexeme.guard p ts = form p
+name_of _ p ts = form p
 
 -- a name with its place, and what follows it
 abbrev pub name_at : ℕ → List Tok → Read (ℕ × List ℕ)
@@ -118,12 +103,10 @@ named_at end w ts = and_then (field_at end ts) (λ a us. ok (name_or_field w a) 
 -- the front token of a part, its place and what follows, under a reader for what stands in brackets
 abbrev pub part_of : ℕ → Option Reader → Lexeme → ℕ → Reader
 part_of end inner (lexeme.name w) p ts = named_at end w ts
-part_of end inner (lexeme.text w) p ts = form p
 part_of end inner (lexeme.number n) p ts = ok (number n) ts
-part_of end inner (lexeme.operator o) p ts = form p
 part_of end inner (lexeme.mark m) p ts = cond (same_mark m mark.Open) (elim inner [ None ↦ deep p | Some read ↦ and_then (read ts) (λ e rest. and_then (mark_at mark.Close end rest) (λ _ us. ok (bracketed e) us)) ]) (form p)
 part_of end inner lexeme.eoi p ts = ok eoi ts
-part_of end inner lexeme.guard p ts = form p
+part_of end inner _ p ts = form p
 
 abbrev pub part_with : ℕ → Option Reader → Reader
 part_with end inner [] = form end

@@ -11,7 +11,7 @@ use Rattle.expr.specs.Trees.{Tree, number, eoi, name, field, bracketed, binary}
 use Rattle.expr.specs.declared.Refusal.{Refusal}
 use Rattle.expr.specs.declared.Refusal.TheVariants.{Form}
 use Rattle.expr.proofs.Turns.{refused_too}
-use Rattle.expr.specs.Reading.{Refuses, Read, ok, form, deep, and_then, Reader, level_of, same_level, operator_at, more, chain, compared, expression_of, part_of, part_with, part_at, inner, expression_at, field_at, name_at, name_or_field, mark_at}
+use Rattle.expr.specs.Reading.{Refuses, Read, ok, form, deep, and_then, Reader, level_of, same_level, operator_at, more, chain, compared, expression_of, part_with, part_at, inner, expression_at, field_at, name_at, name_or_field, mark_at}
 use Rattle.form_laws.specs.Grammar.{Writing, Part, a_number, an_eoi, a_name, a_field, in_brackets, Joined, alone, joined, Compared, ExpressionOf, Nothing, PartIn, Expression}
 use Rattle.form_laws.specs.Grammar as grammar
 use Rattle.form_laws.specs.Law.{place_told, place_of}

@@ -18,10 +18,9 @@ use token::{Mark, Tokens};
 fn stops(tokens: &Tokens) -> bool
     ensures { result ≡ at_stop tokens.now.left }
 {
-    match tokens.peek() {
-        Some(next) => next.token.is_operator(Op::Divide) || next.token.is_mark(Mark::Semicolon),
-        None => false,
-    }
+    tokens.peek().is_some_and(|next| {
+        next.token.is_operator(Op::Divide) || next.token.is_mark(Mark::Semicolon)
+    })
 }
 
 /// Terms, up to what ends their alternative.

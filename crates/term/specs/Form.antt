@@ -48,11 +48,9 @@ guard_at end ts = and_then (mark_at mark.Open end ts) (λ _ ts. and_then (expr_a
 abbrev pub term_of : Lexeme → ℕ → ℕ → List Tok → Read TermTree
 term_of (lexeme.name w) end p ts = call_at w end ts
 term_of (lexeme.text w) end p ts = literal_at w end ts
-term_of (lexeme.number n) end p ts = form p
-term_of (lexeme.operator o) end p ts = form p
 term_of (lexeme.mark m) end p ts = cond (same_mark m mark.OpenCurly) (attribute_at end ts) (form p)
-term_of lexeme.eoi end p ts = form p
 term_of lexeme.guard end p ts = guard_at end ts
+term_of _ end p ts = form p
 
 abbrev pub term_at : ℕ → List Tok → Read TermTree
 term_at end [] = form end

@@ -14,14 +14,7 @@ use Rattle.token.proofs.Laws.{same_class}
 
 abbrev pub begun : Class → Bool
 begun class.End = false
-begun class.Space = true
-begun class.Letter = true
-begun (class.Digit d) = true
-begun class.Low = true
-begun class.Quote = true
-begun (class.Mark m) = true
-begun (class.Operator o) = true
-begun class.Other = true
+begun _ = true
 
 begun_some : (bs : List ℕ) → begun (class_of bs) ≡ true → 1 ≤ length bs
 begun_some [] h = absurd (grind (arith, h))
@@ -29,15 +22,8 @@ begun_some (b ∷ bs) h = omega arith
 
 -- ---- << is no class of one byte
 abbrev shift : Class → Bool
-shift class.End = false
-shift class.Space = false
-shift class.Letter = false
-shift (class.Digit d) = false
-shift class.Low = false
-shift class.Quote = false
-shift (class.Mark m) = false
 shift (class.Operator o) = leb 2 (width_of o)
-shift class.Other = false
+shift _ = false
 
 keeps : (t : Class → Bool) (y x : Bool) (a b : Class) → t a ≡ y → t b ≡ y → t (cond x a b) ≡ y
 keeps t y true a b p q = p
@@ -80,15 +66,8 @@ not_end b bs h = let some = same_class begun refl b bs ∙ byte_all begun true (
 
 -- ---- classes
 abbrev operates : Class → Bool
-operates class.End = false
-operates class.Space = false
-operates class.Letter = false
-operates (class.Digit d) = false
-operates class.Low = false
-operates class.Quote = false
-operates (class.Mark m) = false
 operates (class.Operator o) = true
-operates class.Other = false
+operates _ = false
 
 -- << apart, the first byte tells the class
 pub one_byte : (b : ℕ) (bs : List ℕ) (c : Class) → class_of (b ∷ bs) ≡ c → operates c ≡ false → byte_class b ≡ c
@@ -100,15 +79,8 @@ one_byte b (d ∷ bs) c e plain = go (eqb b 0x3C && eqb d 0x3C) e
     go false h = h
 
 abbrev is_space : Class → Bool
-is_space class.End = false
 is_space class.Space = true
-is_space class.Letter = false
-is_space (class.Digit d) = false
-is_space class.Low = false
-is_space class.Quote = false
-is_space (class.Mark m) = false
-is_space (class.Operator o) = false
-is_space class.Other = false
+is_space _ = false
 
 no_mark : (b : ℕ) → is_space (mark_class b) ≡ false
 no_mark = mark_all is_space false (λ _. refl) (λ _ _. refl) refl

@@ -97,15 +97,10 @@ module _ (bs : List ℕ) (at n : ℕ) where
 -- ---- what stands at a place decides
 -- a class that begins a token, or the end
 abbrev pub starts : Class → Bool
-starts class.End = true
 starts class.Space = false
-starts class.Letter = true
-starts (class.Digit d) = true
 starts class.Low = false
-starts class.Quote = true
-starts (class.Mark m) = true
-starts (class.Operator o) = true
 starts class.Other = false
+starts _ = true
 
 module _ (bs : List ℕ) (at : ℕ) where
   pub by_class : (c : Class) → c ≡ class_of (take (length bs - at) (drop at bs)) → lexed at (drop at bs) ≡ start lexed at c (drop at bs)

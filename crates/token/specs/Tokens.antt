@@ -49,13 +49,8 @@ abbrev pub same_mark : Mark → Mark → Bool
 same_mark m k = mark_code m == mark_code k
 
 abbrev pub is_mark : Mark → Lexeme → Bool
-is_mark m (name w) = false
-is_mark m (text w) = false
-is_mark m (number n) = false
-is_mark m (operator o) = false
 is_mark m (mark k) = same_mark k m
-is_mark m eoi = false
-is_mark m guard = false
+is_mark m _ = false
 
 abbrev pub op_code : Op → ℕ
 op_code op.Equal = 0
@@ -68,23 +63,14 @@ op_code op.Remainder = 6
 op_code op.Shift = 7
 
 abbrev pub is_operator : Op → Lexeme → Bool
-is_operator o (name w) = false
-is_operator o (text w) = false
-is_operator o (number n) = false
 is_operator o (operator p) = op_code p == op_code o
-is_operator o (mark m) = false
-is_operator o eoi = false
-is_operator o guard = false
+is_operator o _ = false
 
 -- a name has at most 24 bytes, and a string gives 1 to 16
 abbrev pub Sized : Lexeme → Type 0
 Sized (name w) = length w ≤ 24
 Sized (text w) = (1 ≤ length w) × (length w ≤ 16)
-Sized (number n) = Unit {0}
-Sized (operator o) = Unit {0}
-Sized (mark m) = Unit {0}
-Sized eoi = Unit {0}
-Sized guard = Unit {0}
+Sized _ = Unit {0}
 
 abbrev pub shown : Placed → ℕ × Lexeme
 shown p = (p.place, lexeme p.token)
@@ -119,37 +105,19 @@ back p [] = []
 back p (b ∷ bs) = cond (p b) (back p bs) (b ∷ bs)
 
 abbrev pub in_name : Class → Bool
-in_name class.End = false
-in_name class.Space = false
 in_name class.Letter = true
 in_name (class.Digit d) = true
 in_name class.Low = true
-in_name class.Quote = false
-in_name (class.Mark m) = false
-in_name (class.Operator o) = false
-in_name class.Other = false
+in_name _ = false
 
 abbrev pub in_number : Class → Bool
-in_number class.End = false
-in_number class.Space = false
-in_number class.Letter = false
 in_number (class.Digit d) = true
-in_number class.Low = false
-in_number class.Quote = false
-in_number (class.Mark m) = false
-in_number (class.Operator o) = false
-in_number class.Other = false
+in_number _ = false
 
 abbrev pub in_text : Class → Bool
 in_text class.End = false
-in_text class.Space = true
-in_text class.Letter = true
-in_text (class.Digit d) = true
-in_text class.Low = true
 in_text class.Quote = false
-in_text (class.Mark m) = true
-in_text (class.Operator o) = true
-in_text class.Other = true
+in_text _ = true
 
 abbrev pub name_byte : ℕ → Bool
 name_byte b = in_name (byte_class b)
@@ -165,15 +133,8 @@ abbrev pub word_of : List ℕ → Lexeme
 word_of w = cond (bytes_eq w (codes "EOI")) eoi (cond (bytes_eq w (codes "guard")) guard (name w))
 
 abbrev pub digit_in : Class → ℕ
-digit_in class.End = 0
-digit_in class.Space = 0
-digit_in class.Letter = 0
 digit_in (class.Digit d) = d
-digit_in class.Low = 0
-digit_in class.Quote = 0
-digit_in (class.Mark m) = 0
-digit_in (class.Operator o) = 0
-digit_in class.Other = 0
+digit_in _ = 0
 
 -- decimal digits after the value v
 abbrev pub value : ℕ → List ℕ → ℕ
@@ -188,14 +149,8 @@ abbrev pub allowed_body : List ℕ → Bool
 allowed_body w = few_bytes (decoded_length (decode w))
 
 abbrev pub width_of : Op → ℕ
-width_of op.Equal = 1
-width_of op.Less = 1
-width_of op.Plus = 1
-width_of op.Minus = 1
-width_of op.Times = 1
-width_of op.Divide = 1
-width_of op.Remainder = 1
 width_of op.Shift = 2
+width_of _ = 1
 
 -- ---- the end of a token that began at `from` and has the bytes w, or the value v; bs stands at the place `at`, and `next` reads on from there
 abbrev pub Rest : Type 0
