@@ -12,7 +12,7 @@ mod name;
 
 pub use name::Name;
 
-#[derive(Clone, Drop)]
+#[derive(Clone, PartialEq, Eq, Debug, Drop)]
 pub enum Code {
     Number(u64),
     Eoi,
@@ -24,6 +24,7 @@ pub enum Code {
 }
 
 // Appends one piece of code, unless there is no more room.
+#[tactic(auto, using(arena::proofs::Bounds::seen))]
 pub fn emit(out: &mut Arena<Code, 1025>, code: Code)
     ensures { codes out.new ≡ upto 1025 (codes out.old) (piece code ∷ []) }
 {

@@ -1,6 +1,6 @@
 -- What a name of a text stands for: a rule or a reader, an attribute's slot, an earlier call.
 use Rattle.std.specs.Prelude.{ℕ, suc, Bool, cond, List, [], ◌∷◌, ◌++◌, map, Some, None, Option}
-use Rattle.std.specs.List.{list_any, position}
+use Rattle.std.specs.List.{fold, list_any, position}
 use Rattle.std.specs.Option.{option_map, option_or}
 use Rattle.std.specs.Str.{bytes_eq}
 use Rattle.fields.specs.Names.{reader_table, number_in}
@@ -53,13 +53,11 @@ noted seen None = seen
 noted seen (Some w) = cond (among (map Some seen) w) seen (seen ++ w ∷ [])
 
 abbrev pub noted_all : List (List ℕ) → List (Option (List ℕ)) → List (List ℕ)
-noted_all seen [] = seen
-noted_all seen (v ∷ vs) = noted_all (noted seen v) vs
+noted_all seen vs = fold noted seen vs
 
 -- alternative after alternative
 abbrev pub noted_in : List (List ℕ) → List (List TermTree) → List (List ℕ)
-noted_in seen [] = seen
-noted_in seen (ts ∷ more) = noted_in (noted_all seen (map sets ts)) more
+noted_in seen alternatives = fold (λ found ts. noted_all found (map sets ts)) seen alternatives
 
 abbrev pub slots_of : RuleTree → List (List ℕ)
 slots_of r = noted_in [] r.alternatives
