@@ -1,10 +1,10 @@
 -- Where the token reader stands.
-use Rattle.std.proofs.Common.{◌≡◌, ℕ, min, List, Some, None, Option, Ok, Err, Result, length, drop, refl, sym, ap, ◌∙◌, inl, inr, arith, drop_of_length-le}
+use Rattle.std.proofs.Common.{◌≡◌, ℕ, min, List, Some, None, Option, IfSome, Ok, Err, Result, IfOk, length, drop, refl, sym, ap, ◌∙◌, inl, inr, arith, drop_of_length-le}
 use Rattle.std.specs.Result.{result_unwrap_or}
 use Rattle.std.proofs.lemmas.Bool.{cases_lt}
 use Rattle.token.specs.declared.Placed.{Placed}
 use Rattle.token.specs.declared.scan.NoToken.{NoToken}
-use Rattle.token.specs.Tokens.{lexed, toks, tokens_at, found, first_bad, bad_token, Onward, NextIs}
+use Rattle.token.specs.Tokens.{lexed, toks, tokens_at, found, first_bad, bad_token, lexeme, Spans, NextIs}
 
 -- no token stands after the end
 pub within : (bs : List ℕ) (at m : ℕ) → m ≡ min at (length bs) → tokens_at bs m ≡ tokens_at bs at
@@ -16,7 +16,7 @@ within bs at m h = elim (cases_lt at (length bs)) [
       ap (tokens_at bs) last ∙ ap (λ l. toks (lexed (length bs) l)) (drop_of_length-le bs (omega arith)) ∙ sym (ap (λ l. toks (lexed at l)) (drop_of_length-le bs (omega arith)))
 ]
 
-pub next_is : (bs : List ℕ) (at : ℕ) (r : Result (Option (Placed × ℕ)) NoToken) → lexed at (drop at bs) ≡ found bs r → Onward bs at r → NextIs bs at (result_unwrap_or r None)
+pub next_is : (bs : List ℕ) (at : ℕ) (r : Result (Option (Placed × ℕ)) NoToken) → lexed at (drop at bs) ≡ found bs r → IfOk r (λ found. IfSome found (λ x. Spans bs at (lexeme x.0.token) x.1)) → NextIs bs at (result_unwrap_or r None)
 unfolding tokens_at
 next_is bs at (Ok (Some x)) reads moves = (ap toks reads, moves.2, moves.1)
 next_is bs at (Ok None) reads moves = ap toks reads

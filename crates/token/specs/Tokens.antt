@@ -207,31 +207,21 @@ abbrev pub written : List ℕ → ℕ → Result (Token × ℕ) NoToken → Lexe
 written bs at (Ok x) = cons (at, lexeme x.0) (lexed x.1 (drop x.1 bs))
 written bs at (Err e) = refused e.place
 
--- it ends further on, and not past the end
-abbrev pub Written : List ℕ → ℕ → Result (Token × ℕ) NoToken → Type 0
-Written bs at (Ok x) = (at < x.1) × (x.1 ≤ length bs) × Sized (lexeme x.0)
-Written bs at (Err e) = Unit {0}
+-- a token is read from a place up to another one, further on and not past the end
+abbrev pub Spans : List ℕ → ℕ → Lexeme → ℕ → Type 0
+Spans bs from t to = (from < to) × (to ≤ length bs) × Sized t
 
--- the same, or the end of the text
+-- such a token, or the end of the text
 abbrev pub found_at : List ℕ → ℕ → Result (Option (Token × ℕ)) NoToken → Lexed
 found_at bs at (Ok (Some x)) = cons (at, lexeme x.0) (lexed x.1 (drop x.1 bs))
 found_at bs at (Ok None) = done
 found_at bs at (Err e) = refused e.place
 
-abbrev pub OnwardAt : List ℕ → ℕ → Result (Option (Token × ℕ)) NoToken → Type 0
-OnwardAt bs at (Ok (Some x)) = (at < x.1) × (x.1 ≤ length bs) × Sized (lexeme x.0)
-OnwardAt bs at (Ok None) = Unit {0}
-OnwardAt bs at (Err e) = Unit {0}
-
+-- so with separators before it
 abbrev pub found : List ℕ → Result (Option (Placed × ℕ)) NoToken → Lexed
 found bs (Ok (Some x)) = cons (shown x.0) (lexed x.1 (drop x.1 bs))
 found bs (Ok None) = done
 found bs (Err e) = refused e.place
-
-abbrev pub Onward : List ℕ → ℕ → Result (Option (Placed × ℕ)) NoToken → Type 0
-Onward bs from (Ok (Some x)) = (from < x.1) × (x.1 ≤ length bs) × Sized (lexeme x.0.token)
-Onward bs from (Ok None) = Unit {0}
-Onward bs from (Err e) = Unit {0}
 
 -- the tokens from a place on, up to the first place that has none
 unfoldable pub tokens_at : List ℕ → ℕ → List Tok

@@ -107,6 +107,7 @@ fn mark_class(b: u8) -> Class
     }
 }
 
+#[tactic(auto, using(std::proofs::lemmas::Bool::Decides::nat_tests))]
 fn byte_class(b: u8) -> Class
     ensures { result ≡ byte_class b }
 {

@@ -1,6 +1,6 @@
-ghost use Rattle.std.specs.Prelude.{◌≡◌, ◌+◌, ◌<◌, ◌≤◌, ◌^◌, ℕ, Bool, true, [], take, drop, length, SomeIff};
+ghost use Rattle.std.specs.Prelude.{◌≡◌, ◌+◌, ◌<◌, ◌≤◌, ◌^◌, ℕ, Bool, true, [], take, drop, length, SomeIff, IfOk, IfSome};
 ghost use Rattle.token.specs.Classes.{separator, byte_class};
-ghost use Rattle.token.specs.Tokens.{name_byte, number_byte, text_byte, front, digit_in, value, width_of, allowed_body, lexeme, word_of, name_from, number_from, text_from, lexed, found, found_at, written, Onward, OnwardAt, Written, NextIs};
+ghost use Rattle.token.specs.Tokens.{name_byte, number_byte, text_byte, front, digit_in, value, width_of, allowed_body, lexeme, word_of, name_from, number_from, text_from, lexed, found, found_at, written, Spans, NextIs};
 ghost use Rattle.token.specs.Laid.{stops};
 
 use super::{Class, Placed, Token, byte_class, class_of};
@@ -104,7 +104,7 @@ fn width(op: Op) -> usize
 fn name<'a>(text: &'a [u8], at: usize) -> Result<(Token<'a>, usize), NoToken>
     requires { at < length text.now }
     ensures reads { name_from lexed at (take 1 (drop at text.now)) (at + 1) (drop 1 (drop at text.now)) ≡ written text.now at result }
-    ensures moves { Written text.now at result }
+    ensures moves { IfOk result (λ x. Spans text.now at (lexeme x.0) x.1) }
 {
     let to = at + 1 + run(&text[at + 1..], is_name_byte);
     if to - at > NAME_LIMIT {
@@ -117,7 +117,7 @@ fn name<'a>(text: &'a [u8], at: usize) -> Result<(Token<'a>, usize), NoToken>
 fn number<'a>(text: &'a [u8], at: usize) -> Result<(Token<'a>, usize), NoToken>
     requires { at < length text.now }
     ensures reads { number_from lexed at (value 0 (take 1 (drop at text.now))) (at + 1) (drop 1 (drop at text.now)) ≡ written text.now at result }
-    ensures moves { Written text.now at result }
+    ensures moves { IfOk result (λ x. Spans text.now at (lexeme x.0) x.1) }
 {
     let to = at + 1 + run(&text[at + 1..], is_digit);
     match decimal(&text[at..to]) {
@@ -130,7 +130,7 @@ fn number<'a>(text: &'a [u8], at: usize) -> Result<(Token<'a>, usize), NoToken>
 fn string<'a>(text: &'a [u8], at: usize) -> Result<(Token<'a>, usize), NoToken>
     requires { at < length text.now }
     ensures reads { text_from lexed at [] (at + 1) (drop 1 (drop at text.now)) ≡ written text.now at result }
-    ensures moves { Written text.now at result }
+    ensures moves { IfOk result (λ x. Spans text.now at (lexeme x.0) x.1) }
 {
     let to = at + 1 + run(&text[at + 1..], is_text_byte);
     let body = &text[at + 1..to];
@@ -146,7 +146,7 @@ fn token_at<'a>(text: &'a [u8], at: usize) -> Result<Option<(Token<'a>, usize)>,
     requires within { at ≤ length text.now }
     requires no_gap { stops separator (drop at text.now) ≡ true }
     ensures reads { lexed at (drop at text.now) ≡ found_at text.now at result }
-    ensures moves { OnwardAt text.now at result }
+    ensures moves { IfOk result (λ found. IfSome found (λ x. Spans text.now at (lexeme x.0) x.1)) }
 {
     match class_of(&text[at..]) {
         Class::End => Ok(None),
@@ -163,7 +163,7 @@ fn token_at<'a>(text: &'a [u8], at: usize) -> Result<Option<(Token<'a>, usize)>,
 pub fn scan<'a>(text: &'a [u8], from: usize) -> Result<Option<(Placed<'a>, usize)>, NoToken>
     requires { from ≤ length text.now }
     ensures reads { lexed from (drop from text.now) ≡ found text.now result }
-    ensures moves { Onward text.now from result }
+    ensures moves { IfOk result (λ found. IfSome found (λ x. Spans text.now from (lexeme x.0.token) x.1)) }
 {
     let place = from + run(&text[from..], is_separator);
     match token_at(text, place)? {
