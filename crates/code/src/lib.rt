@@ -23,7 +23,7 @@ pub enum Code {
     Bracket,
 }
 
-// Appends one piece of code, unless there is no more room.
+/// Appends one piece of code, unless there is no more room.
 #[tactic(auto, using(arena::proofs::Bounds::seen))]
 pub fn emit(out: &mut Arena<Code, 1025>, code: Code)
     ensures { codes out.new ≡ upto 1025 (codes out.old) (piece code ∷ []) }

@@ -17,7 +17,7 @@ use Rattle.draft.specs.declared.store.Draft.{Draft}
 use Rattle.draft.specs.Limits.{plus, counts, few_enough}
 use Rattle.draft.specs.Shown.{rules_of}
 use Rattle.draft.specs.Cutting.{sizes_of, cut_to}
-use Rattle.draft.specs.Loading.{accepted, refused, by_form, answer, Whole, Taken, ReadsForm, Reads}
+use Rattle.draft.specs.Loading.{by_form, answer, Whole, Taken, ReadsForm, Reads}
 use Rattle.draft.proofs.Shows.{Sound, Fits, rules_show}
 use Rattle.draft.proofs.Sizes.{Sized, By, rules_sized, counts_both, same_counts}
 
@@ -82,7 +82,7 @@ module _ (T U : Tables) (rs : List RuleTree) (whole : Whole T) (is : U ≡ emit_
       let shows = rules_show T rs (sound_of T whole) (subst Fits is fits) in
       let rules : rules_of U ≡ rules_of T ++ rs = ap rules_of is ∙ shows.0 in
       let sound : Sound U = subst Sound (sym is) shows.1 in
-      let answers : by_form (rules_of T) r ≡ accepted rs = ap (by_form (rules_of T)) read ∙ ap (λ b. cond b (accepted rs) (refused 5 0)) (limit ∙ fit) in
+      let answers : by_form (rules_of T) r ≡ Ok rs = ap (by_form (rules_of T)) read ∙ ap (λ b. cond b (Ok rs) (Err refused_by.Limit)) (limit ∙ fit) in
       rw answers record {
         told = refl;
         rules_after = rules;
@@ -91,7 +91,7 @@ module _ (T U : Tables) (rs : List RuleTree) (whole : Whole T) (is : U ≡ emit_
 
   pub passed : few_enough (sizes_of U) ≡ false → (r : Read (List RuleTree)) (ts : List Tok) → r ≡ ok rs ts → Taken (Err refused_by.Limit) (by_form (rules_of T) r) T T
   passed over r ts read =
-      let answers : by_form (rules_of T) r ≡ refused 5 0 = ap (by_form (rules_of T)) read ∙ ap (λ b. cond b (accepted rs) (refused 5 0)) (limit ∙ over) in
+      let answers : by_form (rules_of T) r ≡ Err refused_by.Limit = ap (by_form (rules_of T)) read ∙ ap (λ b. cond b (Ok rs) (Err refused_by.Limit)) (limit ∙ over) in
       rw answers record { told = refl; rules_after = refl; whole_after = whole }
 
   pub read_kept : Kept T U

@@ -5,43 +5,38 @@ use Rattle.expr.specs.Reading.{Read, ok, form, deep}
 use Rattle.term.specs.Tables.{Tables, Kept}
 use Rattle.rule.specs.Form.{RuleTree, rules_at}
 use Rattle.draft.specs.declared.refused.Refused.{Refused}
-use Rattle.draft.specs.Refusing.{refused_number, refused_place}
+use Rattle.draft.specs.declared.refused.Refused.TheVariants as refused
 use Rattle.draft.specs.Limits.{counts, few_enough}
 use Rattle.draft.specs.Shown.{rules_of}
 use Rattle.draft.specs.Cutting.{sizes_of}
 use Rattle.draft.specs.Reach.{most, code_end, bytes_end, span_end, head_end}
 
--- the rules that a text adds, or the number of a refusal and its place
-pub data Answer : Type 0 where
-  accepted : List RuleTree → Answer
-  refused : ℕ → ℕ → Answer
+-- the rules that a text adds, or why it is refused
+abbrev pub Answer : Type 0
+Answer = Result (List RuleTree) Refused
 
 abbrev pub by_form : List RuleTree → Read (List RuleTree) → Answer
-by_form old (ok rs ts) = cond (few_enough (counts (old ++ rs))) (accepted rs) (refused 5 0)
-by_form old (form p) = refused 3 p
-by_form old (deep p) = refused 4 p
+by_form old (ok rs ts) = cond (few_enough (counts (old ++ rs))) (Ok rs) (Err refused.Limit)
+by_form old (form p) = Err (refused.Form p)
+by_form old (deep p) = Err (refused.Deep p)
 
 abbrev pub by_tokens : List RuleTree → List ℕ → Option ℕ → Answer
 by_tokens old text None = by_form old (rules_at (length text) (tokens_at text 0))
-by_tokens old text (Some p) = refused 2 p
+by_tokens old text (Some p) = Err (refused.Token p)
 
 -- the causes in the order of their numbers, to a draft that holds the rules `old`
 unfoldable pub answer : List RuleTree → List ℕ → Answer
-answer old text = cond (nat_lt 65536 (length text)) (refused 1 0) (by_tokens old text (bad_token text))
+answer old text = cond (nat_lt 65536 (length text)) (Err refused.TooLong) (by_tokens old text (bad_token text))
 
 -- the rules that a draft holds then: a refusal changes none
 abbrev pub after : List RuleTree → Answer → List RuleTree
-after old (accepted rs) = old ++ rs
-after old (refused n p) = old
+after old (Ok rs) = old ++ rs
+after old (Err e) = old
 
--- an answer's number and place; 0 0 where the text was taken
-abbrev pub numbers : Answer → ℕ × ℕ
-numbers (accepted rs) = (0, 0)
-numbers (refused n p) = (n, p)
-
-abbrev pub outcome : Result (Unit {0}) Refused → ℕ × ℕ
-outcome (Ok u) = (0, 0)
-outcome (Err e) = (refused_number e, refused_place e)
+-- what is returned: rules that were added stand in the draft
+abbrev pub outcome : Answer → Result (Unit {0}) Refused
+outcome (Ok rs) = Ok tt
+outcome (Err e) = Err e
 
 -- no part reaches past what stands in its table, and the tables hold what the rules take and no more
 pub record Whole (T : Tables) : Type 0 where
@@ -53,7 +48,7 @@ pub record Whole (T : Tables) : Type 0 where
 
 -- ---- what is told, of tables that are whole
 pub record Taken (r : Result (Unit {0}) Refused) (want : Answer) (T U : Tables) : Type 0 where
-  pub told : outcome r ≡ numbers want
+  pub told : r ≡ outcome want
   pub rules_after : rules_of U ≡ after (rules_of T) want
   pub whole_after : Whole U
 

@@ -25,7 +25,7 @@ const LIMITS: Counts = Counts {
 };
 
 impl Counts {
-    // What stands in arenas.
+    /// What stands in arenas.
     pub fn of(arenas: &Arenas) -> Counts
         ensures { result ≡ sizes_of (tables arenas.now) }
     {
@@ -38,7 +38,7 @@ impl Counts {
         }
     }
 
-    // Whether no limit is passed.
+    /// Whether no limit is passed.
     pub fn fit(self) -> bool
         ensures { result ≡ few_enough self }
     {

@@ -47,7 +47,7 @@ fn form(text: &[u8], out: &mut Arenas) -> Result<(), Refused>
     answer
 }
 
-// Adds the rules of a text; the causes of a refusal are tested in their order.
+/// Adds the rules of a text; the causes of a refusal are tested in their order.
 pub fn load(text: &[u8], out: &mut Arenas) -> Result<(), Refused>
     ensures { Loads text.now result (tables out.old) (tables out.new) }
 {

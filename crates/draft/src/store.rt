@@ -27,7 +27,7 @@ pub struct Draft {
 impl Draft {
     ghost use Rattle.std.specs.Prelude.{[], IfOk};
     ghost use Rattle.draft.specs.Held.{held};
-    ghost use Rattle.draft.specs.Loading.{answer, after, numbers, outcome};
+    ghost use Rattle.draft.specs.Loading.{answer, after, outcome};
 
     /// A draft without rules. This call takes all the memory that the draft will ever need.
     pub fn new(heap: Global) -> Result<Draft, AllocError>
@@ -39,7 +39,7 @@ impl Draft {
 
     /// Adds the rules of a text, numbered on; names are not looked at. A refusal leaves the rules as they were.
     pub fn append(&mut self, text: &[u8]) -> Result<(), Refused>
-        ensures told { outcome result ≡ numbers (answer (held self.old) text.now) }
+        ensures told { result ≡ outcome (answer (held self.old) text.now) }
         ensures rules { held self.new ≡ after (held self.old) (answer (held self.old) text.now) }
     {
         load(text, &mut self.arenas)

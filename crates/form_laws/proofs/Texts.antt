@@ -11,7 +11,7 @@ use Rattle.term.specs.Form.{TermTree, term_at}
 use Rattle.rule.specs.Form.{RuleTree, several, at_stop, none_left, term_item, terms_at, branch_end, alternative_at, alternatives_at, rule_at, rules_at}
 use Rattle.form_laws.specs.Grammar.{Writing, Term, a_literal, a_call, an_attribute, a_guard, Several, one, more, Parted, whole, parted, Rule, a_rule, Text}
 use Rattle.form_laws.specs.Law.{FormIsGrammar, RefusalsAreFirst}
-use Rattle.form_laws.proofs.Right.{Stuck, never_refused, stuck_end, stuck_token, never_form, never_true, ok_value, ok_rest, Right, Any, right_by, Seq, seq, seq_right, Done, done, done_right, Flagged, flagged, flagged_right, Told, One, the, Token, Run, last, on, several_right}
+use Rattle.form_laws.proofs.Right.{Stuck, never_refused, stuck_end, stuck_token, ok_value, ok_rest, Right, Any, right_by, Seq, seq, seq_right, Done, done, done_right, Flagged, flagged, flagged_right, Told, One, the, Token, Run, last, on, several_right}
 use Rattle.form_laws.proofs.Tokens.{mark_is, op_is}
 use Rattle.form_laws.proofs.Terms.{Named, named, name_right, mark_then, term_right}
 
@@ -62,7 +62,7 @@ Branch b ts = One (ending b) ts
 
 module _ (end : ℕ) where
   branch_sound : (ts : List Tok) (b : Bool) (rest : List Tok) → branch_end end ts ≡ ok b rest → (us : List Tok) × (ts ≡ us ++ rest) × Branch b us × Unit {0}
-  branch_sound [] b rest h = never_form h
+  branch_sound [] b rest h = cc
   branch_sound (t ∷ ts) b rest h = go (is_operator op.Divide t.1) (is_mark mark.Semicolon t.1) refl refl h
     where
       as_read : (c : Bool) → t.1 ≡ ending c → ok c ts ≡ ok b rest → (us : List Tok) × (t ∷ ts ≡ us ++ rest) × Branch b us × Unit {0}
@@ -71,7 +71,7 @@ module _ (end : ℕ) where
       go : (x y : Bool) → is_operator op.Divide t.1 ≡ x → is_mark mark.Semicolon t.1 ≡ y → cond x (ok false ts) (cond y (ok true ts) (form t.0)) ≡ ok b rest → (us : List Tok) × (t ∷ ts ≡ us ++ rest) × Branch b us × Unit {0}
       go true y e f h = as_read false (op_is op.Divide t.1 e) h
       go false true e f h = as_read true (mark_is mark.Semicolon t.1 f) h
-      go false false e f h = never_form h
+      go false false e f h = cc
 
   branch_complete : (b : Bool) (us rest : List Tok) → Branch b us → Unit {0} → branch_end end (us ++ rest) ≡ ok b rest
   branch_complete true _ rest (the p) c = refl
@@ -175,7 +175,7 @@ module _ (end : ℕ) where
 -- ---- the law
 none_is : (rest : List Tok) → none_left rest ≡ true → rest ≡ []
 none_is [] h = refl
-none_is (t ∷ ts) h = never_true h
+none_is (t ∷ ts) h = cc
 
 read_whole : (end : ℕ) (ts : List Tok) (rs : List RuleTree) → Text rs ts → rules_at end ts ≡ ok rs []
 read_whole end ts rs w = ap (rules_at end) (sym (append-nil ts)) ∙ (text_right end).complete rs ts [] w refl

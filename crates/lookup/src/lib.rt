@@ -14,7 +14,7 @@ use fields::reader_number;
 use names::is_attribute;
 use term::{Rule, Term};
 
-// The number of the rule that has the name.
+/// The number of the rule that has the name.
 pub fn rule_number(rules: &[Rule], name: &[u8]) -> Option<usize>
     ensures value { result ≡ place_in (head_names (map head rules.now)) name.now }
     ensures bound { IfSome result (λ number. number < length rules.now) }
@@ -22,7 +22,7 @@ pub fn rule_number(rules: &[Rule], name: &[u8]) -> Option<usize>
     rules.iter().position(|rule| rule.name.bytes() == name)
 }
 
-// The number of the rule that has the name, or else of the reader.
+/// The number of the rule that has the name, or else of the reader.
 pub fn callee(rules: &Arena<Rule, 33>, name: &[u8]) -> Option<u16>
     ensures { result ≡ callee (head_names (map head (stored rules.now))) name.now }
 {
@@ -41,14 +41,14 @@ fn calls(term: &Term, name: &[u8]) -> bool
     }
 }
 
-// The place of the latest call of the name.
+/// The place of the latest call of the name.
 pub fn latest_call(terms: &[Term], name: &[u8]) -> Option<usize>
     ensures { result ≡ latest_in (map called_entry (map entry terms.now)) name.now }
 {
     terms.iter().rposition(|term| calls(term, name))
 }
 
-// Whether one of the terms sets the attribute.
+/// Whether one of the terms sets the attribute.
 pub fn sets_attribute(terms: &[Term], name: &[u8]) -> bool
     ensures named { result ≡ list_any (attribute_is name.now) (map entry terms.now) }
     ensures set { result ≡ among (map sets_entry (map entry terms.now)) name.now }

@@ -8,21 +8,21 @@ ghost use Rattle.names.specs.Names.{rule_is, attribute_is, reserved};
 
 use term::{Rule, Term};
 
-// Whether no attribute may have the name, since it is that of an end of a call.
+/// Whether no attribute may have the name, since it is that of an end of a call.
 pub fn is_reserved(name: &[u8]) -> bool
     ensures { result ≡ reserved name.now }
 {
     matches!(name, b"start" | b"end")
 }
 
-// Whether one of the rules has the name.
+/// Whether one of the rules has the name.
 pub fn rule_named(rules: &[Rule], name: &[u8]) -> bool
     ensures { result ≡ list_any (λ r. rule_is name.now (head r)) rules.now }
 {
     rules.iter().any(|rule| rule.name.bytes() == name)
 }
 
-// Whether a term sets the attribute of the name.
+/// Whether a term sets the attribute of the name.
 pub fn is_attribute(term: &Term, name: &[u8]) -> bool
     ensures { result ≡ attribute_is name.now (entry term.now) }
 {

@@ -7,7 +7,7 @@ ghost use Rattle.slots.specs.Tables.{listed};
 use super::table::Slots;
 use term::{Arenas, Rule, Term};
 
-// The slots of a rule, nine at most.
+/// The slots of a rule, nine at most.
 pub fn slots_of(arenas: &Arenas, rule: &Rule) -> Slots
     ensures { listed result ≡ take 9 (slots_of (shown_rule (alternatives_of (tables arenas.now)) (head rule.now))) }
 {

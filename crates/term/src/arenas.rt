@@ -5,8 +5,8 @@ use arena::{Arena, Ends, Span};
 use code::{Code, Name};
 use std::alloc::{AllocError, Global};
 
-// A term, whose expressions are parts of the code, and a literal's bytes a part of the bytes.
-#[derive(Drop)]
+/// A term, whose expressions are parts of the code, and a literal's bytes a part of the bytes.
+#[derive(Clone, PartialEq, Eq, Debug, Drop)]
 pub enum Term {
     Literal(Span, Ends),
     Call(Name, Ends),
@@ -15,15 +15,15 @@ pub enum Term {
     Guard(Span),
 }
 
-// A rule: its name, the name's place in the text, and its part of the alternatives.
-#[derive(Drop)]
+/// A rule: its name, the name's place in the text, and its part of the alternatives.
+#[derive(Clone, PartialEq, Eq, Debug, Drop)]
 pub struct Rule {
     pub name: Name,
     pub place: usize,
     pub alternatives: Span,
 }
 
-// The memory of a draft. An alternative is a part of the terms. Each arena has room for one more than its limit, so that a full one tells that the limit was passed.
+/// The memory of a draft. An alternative is a part of the terms. Each arena has room for one more than its limit, so that a full one tells that the limit was passed.
 #[derive(Drop)]
 pub struct Arenas {
     pub rules: Arena<Rule, 33>,
@@ -34,7 +34,7 @@ pub struct Arenas {
 }
 
 impl Arenas {
-    // Empty arenas, with the room for all that they will hold.
+    /// Empty arenas, with the room for all that they will hold.
     pub fn new(heap: Global) -> Result<Arenas, AllocError>
         ensures { IfOk result (λ arenas. tables arenas ≡ blank) }
     {
