@@ -2,7 +2,8 @@
 use Rattle.std.proofs.Common.{refl}
 use Rattle.cases.specs.Cases.{CasesStand}
 use Rattle.meaning.specs.Windows.{cover, bytes_in}
-use Rattle.meaning.specs.Values.{in_range, applied, if_some, nth, called, value, ends}
+use Rattle.operators.specs.Applied.{in_range, applied}
+use Rattle.meaning.specs.Values.{if_some, nth, called, value, ends}
 use Rattle.meaning.specs.Runs.{goes_on, instead, ◌>>=◌, ◌>>◌, ◌or_else◌, need, have}
 use Rattle.meaning.specs.Meaning.{reads, same, matches, read_of, noted, field, one_more, begin, nothing_yet, tree, leaf, with_literal, with_call, with_slot, nested, term, terms, alternatives, start, outcome, root, at_first, parse}
 

@@ -10,7 +10,7 @@ use Rattle.meaning.specs.Values.{value}
 use Rattle.meaning.specs.Answers.{answer_number}
 use Rattle.meaning.specs.Meaning.{Outcome, root, nothing_yet, parse}
 use Rattle.meaning.specs.declared.node.Node.{Node}
-use Rattle.meaning.specs.declared.op.Op.TheVariants.{Plus, Minus, Times, Divide, Remainder, Shift, Equal, Less}
+use Rattle.operators.specs.declared.Op.TheVariants.{Plus, Minus, Times, Divide, Remainder, Shift, Equal, Less}
 
 -- ---- How the cases are written
 

@@ -1,6 +1,6 @@
 -- The code of an expression.
 use Rattle.std.specs.Prelude.{ℕ, List, map}
-use Rattle.token.specs.declared.Op.{Op}
+use Rattle.operators.specs.declared.Op.{Op}
 use Rattle.arena.specs.declared.store.Arena.{Arena}
 use Rattle.arena.specs.Bounded.{stored}
 use Rattle.code.specs.declared.Code.{Code}

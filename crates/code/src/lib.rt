@@ -6,13 +6,13 @@ ghost use Rattle.arena.specs.Bounded.{upto};
 ghost use Rattle.code.specs.Pieces.{piece, codes};
 
 use arena::Arena;
-use token::Op;
+use operators::Op;
 
 mod name;
 
 pub use name::Name;
 
-#[derive(Clone, Copy)]
+#[derive(Clone, PartialEq, Eq, Debug, Drop)]
 pub enum Code {
     Number(u64),
     Eoi,
@@ -23,7 +23,8 @@ pub enum Code {
     Bracket,
 }
 
-// Appends one piece of code, unless there is no more room.
+/// Appends one piece of code, unless there is no more room.
+#[tactic(auto, using(arena::proofs::Bounds::seen))]
 pub fn emit(out: &mut Arena<Code, 1025>, code: Code)
     ensures { codes out.new ≡ upto 1025 (codes out.old) (piece code ∷ []) }
 {

@@ -1,28 +1,25 @@
 -- What the tables are after a text was read, or refused.
-use Rattle.std.proofs.Common.{◌≡◌, ℕ, zero, suc, ◌+◌, ◌<◌, ◌≤◌, Bool, true, false, cond, ltb, leb, List, [], ◌∷◌, ◌++◌, map, length, take, Some, None, Ok, Err, sym, refl, ap, ◌∙◌, subst, arith}
+use Rattle.std.proofs.Common.{◌≡◌, ℕ, suc, ◌+◌, ◌<◌, ◌≤◌, Bool, true, false, cond, ltb, leb, List, ◌++◌, length, take, Some, None, Ok, Err, Result, is_err, sym, refl, ap, ◌∙◌, subst, arith}
 use lib.Seq.{take-append_seam}
 use Rattle.std.proofs.lemmas.Bool.Decides.{nat_tests}
-use Rattle.expr.specs.Reading.{Read, ok, form, deep}
+use Rattle.expr.specs.Reading.{Read, ok}
 use Rattle.code.specs.Pieces.{Piece}
-use Rattle.term.specs.declared.arenas.Span.{Span}
-use Rattle.term.specs.Tables.{Tables, Head, Entry, Kept, Front, tables}
+use Rattle.arena.specs.declared.span.Span.{Span}
+use Rattle.term.specs.Tables.{Tables, Head, Entry, Kept, Front, tables, blank}
 use Rattle.token.specs.Tokens.{Tok, tokens_at, bad_token}
 use Rattle.rule.specs.Form.{RuleTree, rules_at}
 use Rattle.rule.specs.Emission.{emit_all, emit_rule}
-use Rattle.rule.proofs.Several.{emit_kept}
-use Rattle.rule.proofs.Adding.{rule_kept}
-use Rattle.draft.specs.declared.load.Lengths.{Lengths}
-use Rattle.draft.specs.declared.load.Refused.TheVariants as refused_by
+use Rattle.rule.specs.Keeping.{emit_kept, rule_kept}
+use Rattle.draft.specs.declared.counts.Counts.{Counts}
+use Rattle.draft.specs.declared.refused.Refused.{Refused}
+use Rattle.draft.specs.declared.refused.Refused.TheVariants as refused_by
 use Rattle.draft.specs.declared.store.Draft.{Draft}
-use Rattle.draft.specs.Limits.{Counts, plus, counts, few_enough}
+use Rattle.draft.specs.Limits.{plus, counts, few_enough}
 use Rattle.draft.specs.Shown.{rules_of}
-use Rattle.draft.specs.Cutting.{lengths_of, sizes_of, cut_to}
-use Rattle.draft.specs.Loading.{accepted, refused, by_form, answer, Whole, Taken}
+use Rattle.draft.specs.Cutting.{sizes_of, cut_to}
+use Rattle.draft.specs.Loading.{by_form, answer, Whole, Taken, ReadsForm, Reads}
 use Rattle.draft.proofs.Shows.{Sound, Fits, rules_show}
-use Rattle.draft.proofs.Sizes.{Sized, By, rules_sized, counts_both}
-
-abbrev pub blank : Tables
-blank = record { rules = []; alternatives = []; terms = []; bytes = []; code = [] }
+use Rattle.draft.proofs.Sizes.{Sized, By, rules_sized, counts_both, same_counts}
 
 pub blank_whole : Whole blank
 unfolding counts
@@ -58,9 +55,6 @@ limits_told T U k s =
 fits_told : (U : Tables) → few_enough (sizes_of U) ≡ true → Fits U
 fits_told U h = record { rules_fit = grind (arith, nat_tests); alternatives_fit = grind (arith, nat_tests); terms_fit = grind (arith, nat_tests); bytes_fit = grind (arith, nat_tests); code_fits = grind (arith, nat_tests) }
 
-same_counts : {a b c d e a' b' c' d' e' : ℕ} → a ≡ a' → b ≡ b' → c ≡ c' → d ≡ d' → e ≡ e' → ◌≡◌ {A = Counts} (record { rules = a; alternatives = b; terms = c; bytes = d; parts = e }) (record { rules = a'; alternatives = b'; terms = c'; bytes = d'; parts = e' })
-same_counts p q r s t = cc
-
 -- where no limit is passed all that was read stands there
 sizes_told : (T U : Tables) (k : Counts) → Sized T U k → Fits U → sizes_of U ≡ plus (sizes_of T) k
 sizes_told T U k s f =
@@ -88,7 +82,7 @@ module _ (T U : Tables) (rs : List RuleTree) (whole : Whole T) (is : U ≡ emit_
       let shows = rules_show T rs (sound_of T whole) (subst Fits is fits) in
       let rules : rules_of U ≡ rules_of T ++ rs = ap rules_of is ∙ shows.0 in
       let sound : Sound U = subst Sound (sym is) shows.1 in
-      let answers : by_form (rules_of T) r ≡ accepted rs = ap (by_form (rules_of T)) read ∙ ap (λ b. cond b (accepted rs) (refused 5 0)) (limit ∙ fit) in
+      let answers : by_form (rules_of T) r ≡ Ok rs = ap (by_form (rules_of T)) read ∙ ap (λ b. cond b (Ok rs) (Err refused_by.Limit)) (limit ∙ fit) in
       rw answers record {
         told = refl;
         rules_after = rules;
@@ -97,7 +91,7 @@ module _ (T U : Tables) (rs : List RuleTree) (whole : Whole T) (is : U ≡ emit_
 
   pub passed : few_enough (sizes_of U) ≡ false → (r : Read (List RuleTree)) (ts : List Tok) → r ≡ ok rs ts → Taken (Err refused_by.Limit) (by_form (rules_of T) r) T T
   passed over r ts read =
-      let answers : by_form (rules_of T) r ≡ refused 5 0 = ap (by_form (rules_of T)) read ∙ ap (λ b. cond b (accepted rs) (refused 5 0)) (limit ∙ over) in
+      let answers : by_form (rules_of T) r ≡ Err refused_by.Limit = ap (by_form (rules_of T)) read ∙ ap (λ b. cond b (Ok rs) (Err refused_by.Limit)) (limit ∙ over) in
       rw answers record { told = refl; rules_after = refl; whole_after = whole }
 
   pub read_kept : Kept T U
@@ -110,7 +104,7 @@ cut_front xs ys p = ap (take (length xs)) p.1 ∙ take-append_seam xs p.0
 pub same_tables : {a a' : List Head} {b b' : List Span} {c c' : List Entry} {d d' : List ℕ} {e e' : List Piece} → a ≡ a' → b ≡ b' → c ≡ c' → d ≡ d' → e ≡ e' → ◌≡◌ {A = Tables} (record { rules = a; alternatives = b; terms = c; bytes = d; code = e }) (record { rules = a'; alternatives = b'; terms = c'; bytes = d'; code = e' })
 same_tables p q r s t = cc
 
-pub restored : (T U V : Tables) (n : Lengths) → Kept T U → n ≡ lengths_of T → V ≡ cut_to U n → V ≡ T
+pub restored : (T U V : Tables) (n : Counts) → Kept T U → n ≡ sizes_of T → V ≡ cut_to U n → V ≡ T
 restored T U V n k is cut =
     let a = cut_front T.rules U.rules k.rules_kept in
     let b = cut_front T.alternatives U.alternatives k.alternatives_kept in
@@ -119,20 +113,12 @@ restored T U V n k is cut =
     let e = cut_front T.code U.code k.code_kept in
     cut ∙ ap (cut_to U) is ∙ same_tables a b c d e
 
-pub map_take : {X Y : Type 0} (f : X → Y) (n : ℕ) (xs : List X) → map f (take n xs) ≡ take n (map f xs)
-map_take f zero xs = refl
-map_take f (suc n) [] = refl
-map_take f (suc n) (x ∷ xs) = ap (λ l. f x ∷ l) (map_take f n xs)
-
--- a refusal by the form
-pub against : (T : Tables) (p : ℕ) (r : Read (List RuleTree)) → Whole T → r ≡ form p → Taken (Err (refused_by.Form p)) (by_form (rules_of T) r) T T
-against T p r whole e = rw e record { told = refl; rules_after = refl; whole_after = whole }
-
-pub too_deep : (T : Tables) (p : ℕ) (r : Read (List RuleTree)) → Whole T → r ≡ deep p → Taken (Err (refused_by.Deep p)) (by_form (rules_of T) r) T T
-too_deep T p r whole e = rw e record { told = refl; rules_after = refl; whole_after = whole }
-
-pub same_lengths : {a b c d e a' b' c' d' e' : ℕ} → a ≡ a' → b ≡ b' → c ≡ c' → d ≡ d' → e ≡ e' → ◌≡◌ {A = Lengths} (record { rules = a; alternatives = b; terms = c; bytes = d; code = e }) (record { rules = a'; alternatives = b'; terms = c'; bytes = d'; code = e' })
-same_lengths p q r s t = cc
+-- after a refusal
+pub cut_back : (text : List ℕ) (r : Result (Unit {0}) Refused) (T U V : Tables) (n : Counts) → is_err r ≡ true → Reads text r T U → n ≡ sizes_of T → V ≡ cut_to U n → ReadsForm text r T V
+cut_back text (Ok u) T U V n h reads is cut = cc
+cut_back text (Err e) T U V n h reads is cut = λ whole.
+    let told = reads whole in
+    subst (Taken (Err e) (by_form (rules_of T) (rules_at (length text) (tokens_at text 0))) T) (sym (restored T U V n told.1 is cut)) told.0
 
 -- ---- a whole text
 pub refused_long : (T : Tables) (text : List ℕ) → Whole T → ltb 65536 (length text) ≡ true → Taken (Err refused_by.TooLong) (answer (rules_of T) text) T T

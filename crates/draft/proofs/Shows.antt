@@ -2,7 +2,9 @@
 use Rattle.std.proofs.Common.{◌≡◌, ℕ, ◌-◌, ◌<◌, ◌≤◌, List, [], ◌∷◌, ◌++◌, map, length, take, sym, refl, ap, ◌∙◌, subst, append_assoc, append-nil, arith, length-append}
 use Rattle.std.proofs.lemmas.List.{length-map, map-append}
 use Rattle.arena.specs.Bounded.{upto}
+use Rattle.arena.specs.Parts.{part}
 use Rattle.arena.proofs.Bounds.{whole}
+use Rattle.arena.proofs.Pieces.{part_new, part_kept}
 use Rattle.code.specs.Pieces.{Piece}
 use Rattle.code.specs.Pieces as piece
 use Rattle.expr.specs.Trees.{Tree, encode}
@@ -14,11 +16,10 @@ use Rattle.term.specs.Tables as entry
 use Rattle.term.proofs.Puts.{front_upto, grew_both, front_same, term_kept}
 use Rattle.rule.specs.Form.{RuleTree}
 use Rattle.rule.specs.Emission.{emit_all, emit_alternative, emit_rule, with_alternative, with_rule}
-use Rattle.rule.proofs.Several.{emit_kept}
-use Rattle.rule.proofs.Adding.{put_alternative_kept, put_rule_kept, alternative_kept, rule_kept}
-use Rattle.draft.specs.Shown.{part, stack_after, top, tree_of, shown_term, terms_of, alternatives_of, shown_rule, rules_of}
+use Rattle.rule.specs.Keeping.{emit_kept, put_alternative_kept, put_rule_kept, alternative_kept, rule_kept}
+use Rattle.draft.specs.Shown.{stack_after, top, tree_of, shown_term, terms_of, alternatives_of, shown_rule, rules_of}
 use Rattle.draft.specs.Reach.{most, code_end, bytes_end, span_end, head_end}
-use Rattle.draft.proofs.Parts.{part_new, part_kept, most_append, map_kept}
+use Rattle.draft.proofs.Parts.{most_append, map_kept}
 
 -- no part reaches past what stands there
 pub record Sound (T : Tables) : Type 0 where

@@ -7,7 +7,8 @@ use Rattle.term.specs.Form as term
 use Rattle.term.specs.Tables.{Tables, code_after, emit_term}
 use Rattle.rule.specs.Form.{RuleTree}
 use Rattle.rule.specs.Emission.{emit_all, emit_alternative, emit_rule}
-use Rattle.draft.specs.Limits.{Counts, none, plus, total, count_term, count_alternative, count_rule, counts}
+use Rattle.draft.specs.declared.counts.Counts.{Counts}
+use Rattle.draft.specs.Limits.{none, plus, total, count_term, count_alternative, count_rule, counts}
 
 -- k more items, as far as n go
 abbrev pub By : ℕ → ℕ → ℕ → ℕ → Type 0
@@ -79,7 +80,7 @@ unfolding counts
 rules_sized T rs = all_sized emit_rule count_rule rule_sized T rs
 
 -- ---- counts of two lists
-same_counts : {a b c d e a' b' c' d' e' : ℕ} → a ≡ a' → b ≡ b' → c ≡ c' → d ≡ d' → e ≡ e' → ◌≡◌ {A = Counts} (record { rules = a; alternatives = b; terms = c; bytes = d; parts = e }) (record { rules = a'; alternatives = b'; terms = c'; bytes = d'; parts = e' })
+pub same_counts : {a b c d e a' b' c' d' e' : ℕ} → a ≡ a' → b ≡ b' → c ≡ c' → d ≡ d' → e ≡ e' → ◌≡◌ {A = Counts} (record { rules = a; alternatives = b; terms = c; bytes = d; parts = e }) (record { rules = a'; alternatives = b'; terms = c'; bytes = d'; parts = e' })
 same_counts p q r s t = cc
 
 plus_none : (c : Counts) → c ≡ plus none c

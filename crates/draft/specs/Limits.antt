@@ -4,14 +4,7 @@ use Rattle.expr.specs.Trees.{encode}
 use Rattle.term.specs.Form.{TermTree}
 use Rattle.term.specs.Form as term
 use Rattle.rule.specs.Form.{RuleTree}
-
--- how many rules, alternatives, terms, literal bytes, and parts and operators of expressions
-pub record Counts : Type 0 where
-  pub rules : ℕ
-  pub alternatives : ℕ
-  pub terms : ℕ
-  pub bytes : ℕ
-  pub parts : ℕ
+use Rattle.draft.specs.declared.counts.Counts.{Counts}
 
 abbrev pub none : Counts
 none = record { rules = 0; alternatives = 0; terms = 0; bytes = 0; parts = 0 }

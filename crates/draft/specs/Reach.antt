@@ -1,6 +1,6 @@
 -- How far the parts reach that the tables of a draft tell: no further than what stands there.
 use Rattle.std.specs.Prelude.{ℕ, max, List, [], ◌∷◌}
-use Rattle.term.specs.declared.arenas.Span.{Span}
+use Rattle.arena.specs.declared.span.Span.{Span}
 use Rattle.term.specs.Tables.{Tables, Entry, Head}
 use Rattle.term.specs.Tables as entry
 

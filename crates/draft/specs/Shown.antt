@@ -1,19 +1,15 @@
 -- The rules that the tables of a draft hold, as trees.
-use Rattle.std.specs.Prelude.{ℕ, ◌-◌, List, [], ◌∷◌, map, take, drop}
+use Rattle.std.specs.Prelude.{ℕ, List, [], ◌∷◌, map}
+use Rattle.arena.specs.Parts.{part}
 use Rattle.code.specs.Pieces.{Piece}
 use Rattle.code.specs.Pieces as piece
 use Rattle.expr.specs.Trees.{Tree}
 use Rattle.expr.specs.Trees as tree
-use Rattle.term.specs.declared.arenas.Span.{Span}
 use Rattle.term.specs.Form.{TermTree}
 use Rattle.term.specs.Form as term
 use Rattle.term.specs.Tables.{Tables, Entry, Head}
 use Rattle.term.specs.Tables as entry
 use Rattle.rule.specs.Form.{RuleTree}
-
--- the part of a list that a span tells
-abbrev pub part : {X : Type 0} → Span → List X → List X
-part s xs = take (s.to - s.from) (drop s.from xs)
 
 -- ---- the tree of a piece of code: parts wait on a stack for their operator
 abbrev pub joined : List Tree → (Tree → Tree → Tree) → List Tree

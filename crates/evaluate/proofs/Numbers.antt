@@ -2,8 +2,9 @@
 use Rattle.std.proofs.Common.{◌≡◌, ℕ, zero, suc, ◌<◌, ◌≤◌, List, [], ◌∷◌, length, get_or, drop, Some, None, Ok, Result, refl, ap, arith}
 use Rattle.stack.specs.declared.refusal.StackRefusal.{StackRefusal}
 use Rattle.stack.specs.Stacks.{pop_answer}
-use Rattle.meaning.specs.Values.{Progress, applied, value, nth}
-use Rattle.meaning.specs.declared.op.Op.{Op}
+use Rattle.operators.specs.Applied.{applied}
+use Rattle.meaning.specs.Values.{Progress, value, nth}
+use Rattle.operators.specs.declared.Op.{Op}
 use Rattle.meaning.specs.declared.run.Start.{Start}
 use Rattle.sealed.specs.declared.code.Code.{Code}
 use Rattle.sealed.specs.declared.code.Code.TheVariants.{Number, Eoi, Own, OfCall, StartOf, EndOf, Apply, Bracket}

@@ -3,8 +3,9 @@ use Rattle.std.proofs.Common.{◌≡◌, ℕ, ◌+◌, ◌<◌, ◌≤◌, List,
 use Rattle.std.proofs.lemmas.List.{drop_more, drop_all}
 use Rattle.meaning.specs.Syntax.{Expr}
 use Rattle.meaning.specs.Syntax.Expr.{number, eoi, own, of_call, start_of, end_of}
-use Rattle.meaning.specs.Values.{Progress, applied, value, if_some}
-use Rattle.meaning.specs.declared.op.Op.{Op}
+use Rattle.operators.specs.Applied.{applied}
+use Rattle.meaning.specs.Values.{Progress, value, if_some}
+use Rattle.operators.specs.declared.Op.{Op}
 use Rattle.meaning.specs.declared.run.Start.{Start}
 use Rattle.sealed.specs.declared.code.Code.{Code}
 use Rattle.sealed.specs.declared.code.Code.TheVariants.{Number, Eoi, Own, OfCall, StartOf, EndOf, Apply, Bracket}

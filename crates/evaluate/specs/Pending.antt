@@ -2,8 +2,9 @@
 use Rattle.std.specs.Prelude.{ℕ, List, [], ◌∷◌, drop, Some, None, Option}
 use Rattle.meaning.specs.Syntax.{Expr}
 use Rattle.meaning.specs.Syntax.Expr.{number, eoi, own, of_call, start_of, end_of}
-use Rattle.meaning.specs.Values.{Progress, applied, value}
-use Rattle.meaning.specs.declared.op.Op.{Op}
+use Rattle.operators.specs.Applied.{applied}
+use Rattle.meaning.specs.Values.{Progress, value}
+use Rattle.operators.specs.declared.Op.{Op}
 use Rattle.meaning.specs.declared.run.Start.{Start}
 use Rattle.sealed.specs.Codes.{broken}
 use Rattle.sealed.specs.declared.code.Code.{Code}

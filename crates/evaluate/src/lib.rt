@@ -9,7 +9,8 @@ ghost use Rattle.sealed.specs.Codes.{expr_of};
 ghost use Rattle.sealed.specs.Parts.{part};
 ghost use Rattle.evaluate.specs.Pending.{leaf_of, operated, latest as latest_of, next_value, values_left, last_value};
 
-use meaning::{Node, Op, Start, apply, find_call};
+use meaning::{Node, Start, find_call};
+use operators::Op;
 use sealed::{Code, Sealed, Span};
 use stack::Stack;
 
@@ -71,7 +72,7 @@ fn operate(op: Op, stack: &mut Stack<u64>) -> Option<u64>
     let Ok(p) = stack.pop() else {
         return None;
     };
-    apply(op, p, q)
+    op.apply(p, q)
 }
 
 // The latest number is taken off the stack.

@@ -1,8 +1,8 @@
 -- One turn of the loop over the items of a chain, what a bracket opens, and what is appended.
-use Rattle.std.proofs.Common.{◌≡◌, ℕ, zero, suc, ◌-◌, ◌<◌, ◌≤◌, List, [], ◌∷◌, ◌++◌, length, take, Some, None, Ok, Err, sym, refl, ap, ◌∙◌, subst, append_assoc, append-nil, arith}
-use Rattle.token.specs.declared.Mark.TheVariants.{Open}
-use Rattle.token.specs.declared.Op.{Op}
-use Rattle.token.specs.Tokens.{Lexeme, Tok, tokens_at}
+use Rattle.std.proofs.Common.{◌≡◌, ℕ, zero, suc, ◌-◌, ◌<◌, ◌≤◌, List, [], ◌∷◌, ◌++◌, length, take, Some, None, Ok, Err, Result, sym, refl, ap, ◌∙◌, subst, append_assoc, append-nil, arith}
+use Rattle.token.specs.declared.Mark.TheVariants.{Open, Close}
+use Rattle.operators.specs.declared.Op.{Op}
+use Rattle.token.specs.Tokens.{Tok}
 use Rattle.token.specs.Tokens as lexeme
 use Rattle.arena.specs.declared.store.Arena.{Arena}
 use Rattle.arena.specs.Bounded.{upto}
@@ -15,9 +15,7 @@ use Rattle.expr.specs.declared.Level.TheVariants as level
 use Rattle.expr.specs.declared.Refusal.{Refusal}
 use Rattle.expr.specs.declared.Refusal.TheVariants.{Form, Deep}
 use Rattle.expr.specs.Trees.{Tree, bracketed, binary, encode}
-use Rattle.expr.specs.Trees as tree
-use Rattle.expr.specs.Reading as reading
-use Rattle.expr.specs.Reading.{Read, ok, form, Reader, and_then, operator_at, more, chain, compared, inner, part_at, sum_at, expression_at, closed_at, closed_of, field_at, field_of, Refuses, Grew, Wrote}
+use Rattle.expr.specs.Reading.{Read, ok, Reader, and_then, operator_at, more, chain, compared, inner, part_at, expression_at, mark_at, operator_first, Refuses, Grew, Wrote}
 
 -- ---- what is appended
 pub same : (a : Arena Code 1025) → Grew (codes a) (codes a)
@@ -32,7 +30,18 @@ grew_on a b c xs p g = (take (1025 - length a) xs ++ g.0, g.1 ∙ ap (λ l. l ++
 pub grew_by : (a b xs : List Piece) → b ≡ upto 1025 a xs → Grew a b
 grew_by a b xs p = (take (1025 - length a) xs, p)
 
--- ---- readers
+-- ---- the end of the text is the same further on
+module _ {m n : ℕ} (same : m ≡ n) where
+  pub there : (read : ℕ → Reader) (toks rest : List Tok) (r : Result (Unit {0}) Refusal) (before later : List Piece) → Wrote r (read m toks) rest before later → Wrote r (read n toks) rest before later
+  there read toks rest r before later told = subst (λ k. Wrote r (read k toks) rest before later) same told
+
+  pub reads_there : {X : Type 0} (read : ℕ → List Tok → Read X) (toks rest : List Tok) (x : X) → read m toks ≡ ok x rest → read n toks ≡ ok x rest
+  reads_there read toks rest x told = ap (λ k. read k toks) (sym same) ∙ told
+
+  pub refuses_there : {X : Type 0} (read : ℕ → List Tok → Read X) (toks : List Tok) (e : Refusal) → Refuses e (read m toks) → Refuses e (read n toks)
+  refuses_there read toks e told = subst (λ k. Refuses e (read k toks)) same told
+
+-- ---- what stands first
 -- an operator is followed by an item
 unrolled : (item : Reader) (l : Level) (f : ℕ) (left : Tree) (rest ts : List Tok) (t : Tok) (o : Op) → rest ≡ t ∷ ts → length rest ≤ f → operator_at l t.1 ≡ Some o → more item l f left rest ≡ and_then (item ts) (λ right after. more item l (f - 1) (binary o left right) after)
 unrolled item l f left rest ts t o is enough op = ap (more item l f left) is ∙ go f (subst (λ r. length r ≤ f) is enough)
@@ -42,24 +51,22 @@ unrolled item l f left rest ts t o is enough op = ap (more item l f left) is ∙
     go (suc n) h = rw (op, more) (ap (λ k. and_then (item ts) (λ right after. more item l k (binary o left right) after)) (omega arith))
 
 -- no operator follows
-stops : (item : Reader) (l : Level) (f : ℕ) (left : Tree) (rest ts : List Tok) (t : Tok) → rest ≡ t ∷ ts → operator_at l t.1 ≡ None → more item l f left rest ≡ ok left rest
-stops item l f left rest ts t is op = rw is (go f)
-  where
-    go : (n : ℕ) → more item l n left (t ∷ ts) ≡ ok left (t ∷ ts)
-    go zero = refl
-    go (suc n) = rw (op, more) refl
+stops : (item : Reader) (l : Level) (f : ℕ) (left : Tree) (rest : List Tok) → operator_first l rest ≡ None → more item l f left rest ≡ ok left rest
+stops item l zero left rest op = refl
+stops item l (suc f) left [] op = refl
+stops item l (suc f) left (t ∷ ts) op = rw (op, more) refl
 
-ends : (item : Reader) (l : Level) (f : ℕ) (left : Tree) (rest : List Tok) → rest ≡ [] → more item l f left rest ≡ ok left rest
-ends item l zero left rest h = refl
-ends item l (suc f) left rest h = rw h refl
+no_comparison : (item : Reader) (left : Tree) (rest : List Tok) → operator_first level.Compare rest ≡ None → compared item left rest ≡ ok left rest
+no_comparison item left [] op = refl
+no_comparison item left (t ∷ ts) op = rw (op, compared) refl
 
 -- a refusal of the first step is one of both
 pub refused_too : (e : Refusal) {X Y : Type 0} (first : Read X) (k : X → List Tok → Read Y) → Refuses e first → Refuses e (and_then first k)
 refused_too (Form p) first k h = ap (λ r. and_then r k) h
 refused_too (Deep p) first k h = ap (λ r. and_then r k) h
 
--- ---- the loop over the items of a chain
--- `entry` is what was written when the loop began, after the first item; `out` is what is written now, the code of `left`
+-- ---- the loop over the operands of a level
+-- `entry` is what was written when the loop began, after the first operand; `out` is what is written now, the code of `left`
 abbrev Since : Reader → List Tok → List Piece → List Piece → Tree → Type 0
 Since item toks entry out left = (before : List Piece) (first : Tree) (mid : List Tok) → item toks ≡ ok first mid → entry ≡ upto 1025 before (encode first) → out ≡ upto 1025 before (encode left)
 
@@ -74,65 +81,60 @@ pub record Going (item : Reader) (l : Level) (toks rest : List Tok) (entry out :
 same_tree : {a b : Tree} {ts us : List Tok} (r : Read Tree) → r ≡ ok a ts → r ≡ ok b us → a ≡ b
 same_tree r p q = cc
 
-module _ (text : List ℕ) (item : Reader) (l : Level) (toks : List Tok) (from : ℕ) (before entry : List Piece) (first : Wrote text (Ok from) (item toks) before entry) where
-  pub begins : Going item l toks (tokens_at text from) entry entry
+module _ (item : Reader) (l : Level) (toks from : List Tok) (before entry : List Piece) (first : Wrote (Ok tt) (item toks) from before entry) where
+  pub begins : Going item l toks from entry entry
   begins = record {
     left = first.0;
-    turns = length (tokens_at text from);
+    turns = length from;
     enough = omega arith;
     whole = ap (λ r. and_then r (λ left rest. more item l (length rest) left rest)) first.1;
     since = λ before' first' mid is e. e ∙ ap (λ t. upto 1025 before' (encode t)) (same_tree (item toks) is first.1);
   }
 
-  module _ (at : ℕ) (out : List Piece) (going : Going item l toks (tokens_at text at) entry out) where
+  module _ (rest : List Tok) (out : List Piece) (going : Going item l toks rest entry out) where
     written : out ≡ upto 1025 before (encode going.left)
-    written = going.since before first.0 (tokens_at text from) first.1 first.2
+    written = going.since before first.0 from first.1 first.2
 
-    pub nothing_left : tokens_at text at ≡ [] → Wrote text (Ok at) (chain item l toks) before out
-    nothing_left none = (going.left, going.whole ∙ ends item l going.turns going.left (tokens_at text at) none, written)
+    pub no_operator : operator_first l rest ≡ None → Wrote (Ok tt) (chain item l toks) rest before out
+    no_operator op = (going.left, going.whole ∙ stops item l going.turns going.left rest op, written)
 
-    pub no_operator : (t : Tok) (ts : List Tok) → tokens_at text at ≡ t ∷ ts → operator_at l t.1 ≡ None → Wrote text (Ok at) (chain item l toks) before out
-    no_operator t ts is op = (going.left, going.whole ∙ stops item l going.turns going.left (tokens_at text at) ts t is op, written)
+    module _ (t : Tok) (next : List Tok) (o : Op) (is : rest ≡ t ∷ next) (op : operator_at l t.1 ≡ Some o) where
+      pub item_refused : (e : Refusal) (left : List Tok) (later : List Piece) → Wrote (Err e) (item next) left out later → Wrote (Err e) (chain item l toks) left before later
+      item_refused e left later told = (
+        subst (Refuses e) (sym (going.whole ∙ unrolled item l going.turns going.left rest next t o is going.enough op)) (refused_too e (item next) _ told.0),
+        grew_on before out later (encode going.left) written told.1,
+      )
 
-    pub item_refused : (t : Tok) (next : ℕ) (o : Op) (e : Refusal) (later : List Piece) → tokens_at text at ≡ t ∷ tokens_at text next → operator_at l t.1 ≡ Some o → Wrote text (Err e) (item (tokens_at text next)) out later → Wrote text (Err e) (chain item l toks) before later
-    item_refused t next o e later is op told = (
-      subst (Refuses e) (sym (going.whole ∙ unrolled item l going.turns going.left (tokens_at text at) (tokens_at text next) t o is going.enough op)) (refused_too e (item (tokens_at text next)) _ told.0),
-      grew_on before out later (encode going.left) written told.1,
-    )
-
-    pub goes_on : (t : Tok) (next : ℕ) (o : Op) (to : ℕ) (mid later : List Piece) → tokens_at text at ≡ t ∷ tokens_at text next → operator_at l t.1 ≡ Some o → Wrote text (Ok to) (item (tokens_at text next)) out mid → length (tokens_at text to) < length (tokens_at text next) → later ≡ upto 1025 mid (piece.operator o ∷ []) → Going item l toks (tokens_at text to) entry later
-    goes_on t next o to mid later is op read short put =
-        let long = ap length is in
-        record {
-          left = binary o going.left read.0;
-          turns = going.turns - 1;
-          enough = omega (arith, going.enough);
-          whole = going.whole ∙ unrolled item l going.turns going.left (tokens_at text at) (tokens_at text next) t o is going.enough op ∙ ap (λ r. and_then r (λ right after. more item l (going.turns - 1) (binary o going.left right) after)) read.1;
-          since = λ before' first' mid' e e'. onward before' out later (encode going.left) (encode read.0 ++ piece.operator o ∷ []) (going.since before' first' mid' e e') (onward out mid later (encode read.0) (piece.operator o ∷ []) read.2 put);
-        }
+      pub goes_on : (to : List Tok) (mid later : List Piece) → Wrote (Ok tt) (item next) to out mid → length to < length next → later ≡ upto 1025 mid (piece.operator o ∷ []) → Going item l toks to entry later
+      goes_on to mid later read short put =
+          let long = ap length is in
+          record {
+            left = binary o going.left read.0;
+            turns = going.turns - 1;
+            enough = omega (arith, going.enough);
+            whole = going.whole ∙ unrolled item l going.turns going.left rest next t o is going.enough op ∙ ap (λ r. and_then r (λ right after. more item l (going.turns - 1) (binary o going.left right) after)) read.1;
+            since = λ before' first' mid' e e'. onward before' out later (encode going.left) (encode read.0 ++ piece.operator o ∷ []) (going.since before' first' mid' e e') (onward out mid later (encode read.0) (piece.operator o ∷ []) read.2 put);
+          }
 
 -- ---- a comparison
-module _ (text : List ℕ) (item : Reader) (toks : List Tok) (at : ℕ) (before out : List Piece) (first : Wrote text (Ok at) (item toks) before out) where
+module _ (item : Reader) (toks rest : List Tok) (before out : List Piece) (first : Wrote (Ok tt) (item toks) rest before out) where
   abbrev both : Read Tree
   both = and_then (item toks) (λ left rest. compared item left rest)
 
-  one_side : both ≡ compared item first.0 (tokens_at text at)
+  one_side : both ≡ compared item first.0 rest
   one_side = ap (λ r. and_then r (λ left rest. compared item left rest)) first.1
 
-  pub alone_at_end : tokens_at text at ≡ [] → Wrote text (Ok at) both before out
-  alone_at_end none = (first.0, one_side ∙ rw none refl, first.2)
+  pub alone : operator_first level.Compare rest ≡ None → Wrote (Ok tt) both rest before out
+  alone op = (first.0, one_side ∙ no_comparison item first.0 rest op, first.2)
 
-  pub alone : (t : Tok) (ts : List Tok) → tokens_at text at ≡ t ∷ ts → operator_at level.Compare t.1 ≡ None → Wrote text (Ok at) both before out
-  alone t ts is op = (first.0, one_side ∙ rw is (rw (op, compared) refl), first.2)
-
-  module _ (t : Tok) (next : ℕ) (o : Op) (is : tokens_at text at ≡ t ∷ tokens_at text next) (op : operator_at level.Compare t.1 ≡ Some o) where
-    two : both ≡ and_then (item (tokens_at text next)) (λ right rest. ok (binary o first.0 right) rest)
+  module _ (t : Tok) (next : List Tok) (o : Op) (is : rest ≡ t ∷ next) (op : operator_at level.Compare t.1 ≡ Some o) where
+    two : both ≡ and_then (item next) (λ right rest. ok (binary o first.0 right) rest)
     two = one_side ∙ rw is (rw (op, compared) refl)
 
-    pub second_refused : (e : Refusal) (later : List Piece) → Wrote text (Err e) (item (tokens_at text next)) out later → Wrote text (Err e) both before later
-    second_refused e later told = (subst (Refuses e) (sym two) (refused_too e (item (tokens_at text next)) _ told.0), grew_on before out later (encode first.0) first.2 told.1)
+    pub second_refused : (e : Refusal) (left : List Tok) (later : List Piece) → Wrote (Err e) (item next) left out later → Wrote (Err e) both left before later
+    second_refused e left later told = (subst (Refuses e) (sym two) (refused_too e (item next) _ told.0), grew_on before out later (encode first.0) first.2 told.1)
 
-    pub both_sides : (to : ℕ) (mid later : List Piece) → Wrote text (Ok to) (item (tokens_at text next)) out mid → later ≡ upto 1025 mid (piece.operator o ∷ []) → Wrote text (Ok to) both before later
+    pub both_sides : (to : List Tok) (mid later : List Piece) → Wrote (Ok tt) (item next) to out mid → later ≡ upto 1025 mid (piece.operator o ∷ []) → Wrote (Ok tt) both to before later
     both_sides to mid later read put = (
       binary o first.0 read.0,
       two ∙ ap (λ r. and_then r (λ right rest. ok (binary o first.0 right) rest)) read.1,
@@ -146,43 +148,21 @@ opens end (suc d) h = ap (λ k. Some (expression_at end k)) (omega arith)
 
 -- what stands in brackets, and then the closing one
 abbrev closing : ℕ → Tree → List Tok → Read Tree
-closing end e rest = elim (closed_at end rest) [ reading.after us ↦ ok (bracketed e) us | reading.against q ↦ form q ]
+closing end e rest = and_then (mark_at Close end rest) (λ _ us. ok (bracketed e) us)
 
-module _ (text : List ℕ) (end d : ℕ) (toks : List Tok) (t : Tok) (next : ℕ) (more : 0 < d) (is : toks ≡ t ∷ tokens_at text next) (opening : t.1 ≡ lexeme.mark Open) (before out : List Piece) where
-  bracket : part_at end d toks ≡ and_then (expression_at end (d - 1) (tokens_at text next)) (closing end)
+module _ (end d : ℕ) (toks next : List Tok) (t : Tok) (more : 0 < d) (is : toks ≡ t ∷ next) (opening : t.1 ≡ lexeme.mark Open) (before out : List Piece) where
+  bracket : part_at end d toks ≡ and_then (expression_at end (d - 1) next) (closing end)
   bracket = rw is (rw (opening, opens end d more) refl)
 
-  pub bracket_refused : (e : Refusal) → Wrote text (Err e) (expression_at end (d - 1) (tokens_at text next)) before out → Wrote text (Err e) (part_at end d toks) before out
-  bracket_refused e told = (subst (Refuses e) (sym bracket) (refused_too e _ (closing end) told.0), told.1)
+  pub bracket_refused : (e : Refusal) (left : List Tok) → Wrote (Err e) (expression_at end (d - 1) next) left before out → Wrote (Err e) (part_at end d toks) left before out
+  bracket_refused e left told = (subst (Refuses e) (sym bracket) (refused_too e _ (closing end) told.0), told.1)
 
-  module _ (at : ℕ) (read : Wrote text (Ok at) (expression_at end (d - 1) (tokens_at text next)) before out) where
-    inside : part_at end d toks ≡ closing end read.0 (tokens_at text at)
+  module _ (rest : List Tok) (read : Wrote (Ok tt) (expression_at end (d - 1) next) rest before out) where
+    inside : part_at end d toks ≡ closing end read.0 rest
     inside = bracket ∙ ap (λ r. and_then r (closing end)) read.1
 
-    pub bracket_open : (e : Refusal) → closed_of text (Err e) (closed_at end (tokens_at text at)) → Wrote text (Err e) (part_at end d toks) before out
-    bracket_open e told = (subst (Refuses e) (sym inside) (go e told), grew_by before out (encode read.0) read.2)
-      where
-        go : (e : Refusal) → closed_of text (Err e) (closed_at end (tokens_at text at)) → Refuses e (closing end read.0 (tokens_at text at))
-        go (Form p) h = rw (h, closing) refl
-        go (Deep p) h = absurd h
+    pub bracket_open : (e : Refusal) (left : List Tok) → Refuses e (mark_at Close end rest) → Wrote (Err e) (part_at end d toks) left before out
+    bracket_open e left told = (subst (Refuses e) (sym inside) (refused_too e (mark_at Close end rest) (λ _ us. ok (bracketed read.0) us) told), grew_by before out (encode read.0) read.2)
 
-    pub bracket_closed : (to : ℕ) (later : List Piece) → closed_at end (tokens_at text at) ≡ reading.after (tokens_at text to) → later ≡ upto 1025 out (piece.bracket ∷ []) → Wrote text (Ok to) (part_at end d toks) before later
-    bracket_closed to later told put = (bracketed read.0, inside ∙ rw (told, closing) refl, onward before out later (encode read.0) (piece.bracket ∷ []) read.2 put)
-
--- ---- a part of one token, or of three
-module _ (text : List ℕ) (end d : ℕ) (toks : List Tok) (t : Tok) (next : ℕ) (is : toks ≡ t ∷ tokens_at text next) (before later : List Piece) where
-  front : part_at end d toks ≡ part_at end d (t ∷ tokens_at text next)
-  front = ap (part_at end d) is
-
-  pub number_part : (n : ℕ) → t.1 ≡ lexeme.number n → later ≡ upto 1025 before (piece.number n ∷ []) → Wrote text (Ok next) (part_at end d toks) before later
-  number_part n e put = (tree.number n, front ∙ rw e refl, put)
-
-  pub name_part : (w : List ℕ) → t.1 ≡ lexeme.name w → field_at end (tokens_at text next) ≡ reading.no_dot → later ≡ upto 1025 before (piece.name w ∷ []) → Wrote text (Ok next) (part_at end d toks) before later
-  name_part w e none put = (tree.name w, front ∙ rw e (rw (none, reading.part_of) refl), put)
-
-  pub field_part : (w a : List ℕ) (to : ℕ) → t.1 ≡ lexeme.name w → field_at end (tokens_at text next) ≡ reading.dotted a (tokens_at text to) → later ≡ upto 1025 before (piece.field w a ∷ []) → Wrote text (Ok to) (part_at end d toks) before later
-  field_part w a to e some put = (tree.field w a, front ∙ rw e (rw (some, reading.part_of) refl), put)
-
-  pub field_missing : (w : List ℕ) (e : Refusal) → t.1 ≡ lexeme.name w → field_of text (Err e) (field_at end (tokens_at text next)) → Refuses e (part_at end d toks)
-  field_missing w (Form p) e told = front ∙ rw e (rw (told, reading.part_of) refl)
-  field_missing w (Deep p) e told = absurd told
+    pub bracket_closed : (to : List Tok) (later : List Piece) → mark_at Close end rest ≡ ok tt to → later ≡ upto 1025 out (piece.bracket ∷ []) → Wrote (Ok tt) (part_at end d toks) to before later
+    bracket_closed to later told put = (bracketed read.0, inside ∙ ap (λ r. and_then r (λ _ us. ok (bracketed read.0) us)) told, onward before out later (encode read.0) (piece.bracket ∷ []) read.2 put)

@@ -1,6 +1,6 @@
 -- Expressions as trees, and their code.
 use Rattle.std.specs.Prelude.{ℕ, List, [], ◌∷◌, ◌++◌}
-use Rattle.token.specs.declared.Op.{Op}
+use Rattle.operators.specs.declared.Op.{Op}
 use Rattle.code.specs.Pieces.{Piece}
 use Rattle.code.specs.Pieces as piece
 

@@ -1,23 +1,32 @@
 // Expressions of a grammar text: read token by token, and written as code.
 #![tactic(auto)]
 
-ghost use Rattle.std.specs.Prelude.{◌≡◌, ◌<◌, length, IfSome, IfOk};
-ghost use Rattle.token.specs.Tokens.{lexeme, tokens_at};
+ghost use Rattle.std.specs.Prelude.{◌≡◌, OnOk};
+ghost use Rattle.token.specs.Ahead.{Advances, AdvancesOrStays};
+ghost use Rattle.code.specs.Names.{letters};
 ghost use Rattle.code.specs.Pieces.{codes};
-ghost use Rattle.expr.specs.Reading.{level_of, operator_at, field_at, field_of, closed_at, closed_of, Wrote, part_at, product_at, sum_at, expression_at};
+ghost use Rattle.expr.specs.Reading.{level_of, TakesOperator, field_at, ReadsField, Wrote, named_at, part_at, operand_at, joined_at, expression_at};
 
 use arena::Arena;
 use code::{Code, Name, emit};
-use token::{Mark, Op, Placed, Token, next};
+use operators::Op;
+use token::{Mark, Token, Tokens};
 
-#[derive(Clone, Copy, PartialEq)]
+mod taking;
+
+use taking::take_mark;
+pub use taking::{mark, name, take};
+
+/// The operators that bind alike.
+#[derive(Clone, Copy, PartialEq, Eq, Debug)]
 pub enum Level {
     Compare,
     Sum,
     Product,
 }
 
-#[derive(Drop)]
+/// Why a text is refused, with the place.
+#[derive(Clone, Copy, PartialEq, Eq, Debug)]
 pub enum Refusal {
     // a token against the form, or an early end
     Form(usize),
@@ -29,161 +38,129 @@ fn level_of(op: Op) -> Level
     ensures { result ≡ level_of op }
 {
     match op {
-        Op::Equal | Op::Below => Level::Compare,
+        Op::Equal | Op::Less => Level::Compare,
         Op::Plus | Op::Minus => Level::Sum,
-        Op::Times | Op::Over | Op::Rest | Op::Shift => Level::Product,
+        Op::Times | Op::Divide | Op::Remainder | Op::Shift => Level::Product,
     }
 }
 
-fn operator(t: Token, at: Level) -> Option<Op>
-    ensures { result ≡ operator_at at (lexeme t.entry) }
+/// The operator of a level that stands next, if one does. It is taken.
+fn operator(tokens: &mut Tokens, level: Level) -> Option<Op>
+    ensures { TakesOperator level tokens.old result tokens.new }
 {
-    match t {
-        Token::Operator(op) => { if level_of(op) == at { Some(op) } else { None } }
+    match tokens.peek()?.token {
+        Token::Operator(op) if level_of(op) == level => {
+            tokens.next();
+            Some(op)
+        }
         _ => None,
     }
 }
 
-// The attribute named after a dot, with the place after it; none where no dot stands here.
-fn field(text: &[u8], at: usize) -> Result<Option<(Name, usize)>, Refusal>
-    ensures told { field_of text.now result (field_at (length text.now) (tokens_at text.now at)) }
-    ensures shorter { IfOk result (λ o. IfSome o (λ x. length (tokens_at text.now x.1) < length (tokens_at text.now at))) }
+/// The attribute named after a dot; none where no dot stands next.
+fn field(tokens: &mut Tokens) -> Result<Option<Name>, Refusal>
+    ensures told { ReadsField result (field_at tokens.old.end tokens.old.left) tokens.new.left }
+    ensures moves { OnOk result (AdvancesOrStays tokens.old tokens.new) }
 {
-    let Some((dot, more)) = next(text, at) else {
+    if !take_mark(tokens, Mark::Dot) {
         return Ok(None);
-    };
-    match dot.token {
-        Token::Mark(Mark::Dot) => {
-            let Some((first, rest)) = next(text, more) else {
-                return Err(Refusal::Form(text.len()));
-            };
-            match first.token {
-                Token::Name(a) => Ok(Some((Name::of(a), rest))),
-                _ => Err(Refusal::Form(first.place)),
-            }
-        }
-        _ => Ok(None),
     }
+    let (attribute, _) = name(tokens)?;
+    Ok(Some(attribute))
 }
 
-// What follows a closing bracket.
-fn closed(text: &[u8], at: usize) -> Result<usize, Refusal>
-    ensures told { closed_of text.now result (closed_at (length text.now) (tokens_at text.now at)) }
-    ensures shorter { IfOk result (λ to. length (tokens_at text.now to) < length (tokens_at text.now at)) }
+/// The code of a name that was taken, or of the field that it is followed by.
+fn named(tokens: &mut Tokens, name: Name, out: &mut Arena<Code, 1025>) -> Result<(), Refusal>
+    ensures told { Wrote result (named_at tokens.old.end (letters name) tokens.old.left) tokens.new.left (codes out.old) (codes out.new) }
+    ensures moves { OnOk result (AdvancesOrStays tokens.old tokens.new) }
 {
-    let Some((first, rest)) = next(text, at) else {
-        return Err(Refusal::Form(text.len()));
-    };
-    match first.token {
-        Token::Mark(Mark::Close) => Ok(rest),
-        _ => Err(Refusal::Form(first.place)),
+    match field(tokens)? {
+        Some(attribute) => emit(out, Code::Field(name, attribute)),
+        None => emit(out, Code::Name(name)),
     }
+    Ok(())
 }
 
-#[cycle(expression_part_product_sum)]
-fn part(
-    text: &[u8],
-    at: usize,
-    deeper: usize,
-    out: &mut Arena<Code, 1025>,
-) -> Result<usize, Refusal>
-    ensures told { Wrote text.now result (part_at (length text.now) deeper (tokens_at text.now at)) (codes out.old) (codes out.new) }
-    ensures shorter { IfOk result (λ to. length (tokens_at text.now to) < length (tokens_at text.now at)) }
+#[cycle(expression)]
+fn part(tokens: &mut Tokens, deeper: usize, out: &mut Arena<Code, 1025>) -> Result<(), Refusal>
+    ensures told { Wrote result (part_at tokens.old.end deeper tokens.old.left) tokens.new.left (codes out.old) (codes out.new) }
+    ensures moves { OnOk result (Advances tokens.old tokens.new) }
 {
-    let Some((first, rest)) = next(text, at) else {
-        return Err(Refusal::Form(text.len()));
-    };
+    let first = take(tokens)?;
     match first.token {
         Token::Number(n) => {
             emit(out, Code::Number(n));
-            Ok(rest)
+            Ok(())
         }
         Token::Eoi => {
             emit(out, Code::Eoi);
-            Ok(rest)
+            Ok(())
         }
-        Token::Name(n) => {
-            let after = field(text, rest)?;
-            match after {
-                Some(found) => {
-                    emit(out, Code::Field(Name::of(n), found.0));
-                    Ok(found.1)
-                }
-                None => {
-                    emit(out, Code::Name(Name::of(n)));
-                    Ok(rest)
-                }
-            }
-        }
+        Token::Name(word) => named(tokens, Name::of(word), out),
         Token::Mark(Mark::Open) => {
             if deeper == 0 {
                 return Err(Refusal::Deep(first.place));
             }
-            let inner = expression(text, rest, deeper - 1, out)?;
-            let rest = closed(text, inner)?;
+            expression(tokens, deeper - 1, out)?;
+            mark(tokens, Mark::Close)?;
             emit(out, Code::Bracket);
-            Ok(rest)
+            Ok(())
         }
         _ => Err(Refusal::Form(first.place)),
     }
 }
 
-#[cycle(expression_part_product_sum)]
-fn product(
-    text: &[u8],
-    at: usize,
+/// What the operators of a level join.
+#[cycle(expression)]
+fn operand(
+    tokens: &mut Tokens,
+    level: Level,
     deeper: usize,
     out: &mut Arena<Code, 1025>,
-) -> Result<usize, Refusal>
-    ensures told { Wrote text.now result (product_at (length text.now) deeper (tokens_at text.now at)) (codes out.old) (codes out.new) }
-    ensures shorter { IfOk result (λ to. length (tokens_at text.now to) < length (tokens_at text.now at)) }
+) -> Result<(), Refusal>
+    ensures told { Wrote result (operand_at level tokens.old.end deeper tokens.old.left) tokens.new.left (codes out.old) (codes out.new) }
+    ensures moves { OnOk result (Advances tokens.old tokens.new) }
 {
-    let mut rest = part(text, at, deeper, out)?;
-    while let Some((ahead, more)) = next(text, rest) {
-        let Some(op) = operator(ahead.token, Level::Product) else {
-            break;
-        };
-        rest = part(text, more, deeper, out)?;
-        emit(out, Code::Operator(op));
+    match level {
+        Level::Product => part(tokens, deeper, out),
+        Level::Sum => joined(tokens, Level::Product, deeper, out),
+        Level::Compare => joined(tokens, Level::Sum, deeper, out),
     }
-    Ok(rest)
 }
 
-#[cycle(expression_part_product_sum)]
-fn sum(text: &[u8], at: usize, deeper: usize, out: &mut Arena<Code, 1025>) -> Result<usize, Refusal>
-    ensures told { Wrote text.now result (sum_at (length text.now) deeper (tokens_at text.now at)) (codes out.old) (codes out.new) }
-    ensures shorter { IfOk result (λ to. length (tokens_at text.now to) < length (tokens_at text.now at)) }
+/// Operands joined by the operators of a level, from the left.
+#[cycle(expression)]
+fn joined(
+    tokens: &mut Tokens,
+    level: Level,
+    deeper: usize,
+    out: &mut Arena<Code, 1025>,
+) -> Result<(), Refusal>
+    ensures told { Wrote result (joined_at level tokens.old.end deeper tokens.old.left) tokens.new.left (codes out.old) (codes out.new) }
+    ensures moves { OnOk result (Advances tokens.old tokens.new) }
 {
-    let mut rest = product(text, at, deeper, out)?;
-    while let Some((ahead, more)) = next(text, rest) {
-        let Some(op) = operator(ahead.token, Level::Sum) else {
-            break;
-        };
-        rest = product(text, more, deeper, out)?;
+    operand(tokens, level, deeper, out)?;
+    while let Some(op) = operator(tokens, level) {
+        operand(tokens, level, deeper, out)?;
         emit(out, Code::Operator(op));
     }
-    Ok(rest)
+    Ok(())
 }
 
-// An expression at a place: its code is appended, and the place after it is returned.
-#[cycle(expression_part_product_sum)]
+/// An expression with at most `deeper` brackets open: its code is appended. After a refusal the tokens stand anywhere.
+#[cycle(expression)]
 pub fn expression(
-    text: &[u8],
-    at: usize,
+    tokens: &mut Tokens,
     deeper: usize,
     out: &mut Arena<Code, 1025>,
-) -> Result<usize, Refusal>
-    ensures told { Wrote text.now result (expression_at (length text.now) deeper (tokens_at text.now at)) (codes out.old) (codes out.new) }
-    ensures shorter { IfOk result (λ to. length (tokens_at text.now to) < length (tokens_at text.now at)) }
+) -> Result<(), Refusal>
+    ensures told { Wrote result (expression_at tokens.old.end deeper tokens.old.left) tokens.new.left (codes out.old) (codes out.new) }
+    ensures moves { OnOk result (Advances tokens.old tokens.new) }
 {
-    let rest = sum(text, at, deeper, out)?;
-    let Some((ahead, more)) = next(text, rest) else {
-        return Ok(rest);
-    };
-    let Some(op) = operator(ahead.token, Level::Compare) else {
-        return Ok(rest);
-    };
-    let rest = sum(text, more, deeper, out)?;
-    emit(out, Code::Operator(op));
-    Ok(rest)
+    operand(tokens, Level::Compare, deeper, out)?;
+    if let Some(op) = operator(tokens, Level::Compare) {
+        operand(tokens, Level::Compare, deeper, out)?;
+        emit(out, Code::Operator(op));
+    }
+    Ok(())
 }

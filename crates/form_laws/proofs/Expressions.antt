@@ -2,7 +2,7 @@
 use Rattle.std.proofs.Common.{◌≡◌, ℕ, zero, suc, ◌≤◌, Bool, true, false, cond, ◌&&◌, List, [], ◌∷◌, ◌++◌, length, Some, None, Option, sym, refl, ap, ◌∙◌, subst, append_assoc, append-nil, arith}
 use Rattle.token.specs.declared.Mark.{Mark}
 use Rattle.token.specs.declared.Mark.TheVariants as mark
-use Rattle.token.specs.declared.Op.{Op}
+use Rattle.operators.specs.declared.Op.{Op}
 use Rattle.token.specs.Tokens.{Tok, Lexeme, is_mark, same_mark}
 use Rattle.token.specs.Tokens as lexeme
 use Rattle.expr.specs.declared.Level.{Level}
@@ -11,24 +11,23 @@ use Rattle.expr.specs.Trees.{Tree, number, eoi, name, field, bracketed, binary}
 use Rattle.expr.specs.declared.Refusal.{Refusal}
 use Rattle.expr.specs.declared.Refusal.TheVariants.{Form}
 use Rattle.expr.proofs.Turns.{refused_too}
-use Rattle.expr.specs.Reading.{Refuses, Read, ok, form, deep, and_then, Reader, level_of, same_level, operator_at, more, chain, compared, expression_of, part_of, part_with, part_at, inner, expression_at, field_at, name_after, named, closed_at}
-use Rattle.expr.specs.Reading as reading
+use Rattle.expr.specs.Reading.{Refuses, Read, ok, form, deep, and_then, Reader, level_of, same_level, operator_at, more, chain, compared, expression_of, part_with, part_at, inner, expression_at, field_at, name_at, name_or_field, mark_at}
 use Rattle.form_laws.specs.Grammar.{Writing, Part, a_number, an_eoi, a_name, a_field, in_brackets, Joined, alone, joined, Compared, ExpressionOf, Nothing, PartIn, Expression}
 use Rattle.form_laws.specs.Grammar as grammar
 use Rattle.form_laws.specs.Law.{place_told, place_of}
-use Rattle.form_laws.proofs.Right.{never_form, never_deep, never_true, ok_value, ok_rest, both_ok, after_both, rest_short, Right, Stuck, both_refused, never_refused, stuck_by, stuck_end, stuck_token, stuck_deep, stuck_shift, told_form, never_cons, same_front}
+use Rattle.form_laws.proofs.Right.{ok_value, ok_rest, both_ok, after_both, rest_short, Right, Stuck, both_refused, never_refused, stuck_by, stuck_end, stuck_token, stuck_deep, stuck_shift, told_form, same_front}
 use Rattle.form_laws.proofs.Tokens.{mark_is}
 
 -- ---- levels
 level_is : (a b : Level) → same_level a b ≡ true → a ≡ b
 level_is level.Compare level.Compare h = refl
-level_is level.Compare level.Sum h = never_true h
-level_is level.Compare level.Product h = never_true h
-level_is level.Sum level.Compare h = never_true h
+level_is level.Compare level.Sum h = cc
+level_is level.Compare level.Product h = cc
+level_is level.Sum level.Compare h = cc
 level_is level.Sum level.Sum h = refl
-level_is level.Sum level.Product h = never_true h
-level_is level.Product level.Compare h = never_true h
-level_is level.Product level.Sum h = never_true h
+level_is level.Sum level.Product h = cc
+level_is level.Product level.Compare h = cc
+level_is level.Product level.Sum h = cc
 level_is level.Product level.Product h = refl
 
 level_same : (l : Level) → same_level l l ≡ true
@@ -36,24 +35,21 @@ level_same level.Compare = refl
 level_same level.Sum = refl
 level_same level.Product = refl
 
-pub never_some : {Z X : Type 0} {x : X} → None ≡ Some x → Z
-never_some h = let z : ◌≡◌ {A = ℕ} 0 1 = cc in absurd (omega arith)
-
 some_is : {X : Type 0} {x y : X} → Some x ≡ Some y → x ≡ y
 some_is h = cc
 
 operator_is : (l : Level) (k : Lexeme) (o : Op) → operator_at l k ≡ Some o → (k ≡ lexeme.operator o) × (level_of o ≡ l)
-operator_is l (lexeme.name w) o h = never_some h
-operator_is l (lexeme.text w) o h = never_some h
-operator_is l (lexeme.number n) o h = never_some h
-operator_is l (lexeme.mark m) o h = never_some h
-operator_is l lexeme.eoi o h = never_some h
-operator_is l lexeme.guard o h = never_some h
+operator_is l (lexeme.name w) o h = cc
+operator_is l (lexeme.text w) o h = cc
+operator_is l (lexeme.number n) o h = cc
+operator_is l (lexeme.mark m) o h = cc
+operator_is l lexeme.eoi o h = cc
+operator_is l lexeme.guard o h = cc
 operator_is l (lexeme.operator x) o h = go (same_level (level_of x) l) refl h
   where
     go : (b : Bool) → same_level (level_of x) l ≡ b → cond b (Some x) None ≡ Some o → (lexeme.operator x ≡ lexeme.operator o) × (level_of o ≡ l)
     go true e h = (ap lexeme.operator (some_is h), ap level_of (sym (some_is h)) ∙ level_is (level_of x) l e)
-    go false e h = never_some h
+    go false e h = cc
 
 operator_found : (l : Level) (o : Op) → level_of o ≡ l → operator_at l (lexeme.operator o) ≡ Some o
 operator_found l o e = ap (λ b. cond b (Some o) None) (ap (λ x. same_level x l) e ∙ level_same l)
@@ -232,7 +228,7 @@ module _ (end : ℕ) (item : Reader) (W C : Writing Tree) (right : Right end ite
             x ∷ second.0,
             ap (λ l. x ∷ l) second.1,
             subst (λ k. Compared W (binary o left parts.0) (before ++ (x.0, k) ∷ second.0)) (sym is.0) (grammar.compared left parts.0 o x.0 before second.0 w is.1 second.2),
-            (last_counts o left parts.0 parts.1 second.3, λ none. never_true (sym none ∙ is_one)),
+            (last_counts o left parts.0 parts.1 second.3, λ none. cc (sym none ∙ is_one)),
           )
 
   none_compared : (a : Tree) (rest : List Tok) → front_operator level.Compare rest ≡ None → compared item a rest ≡ ok a rest
@@ -340,36 +336,39 @@ module _ (end : ℕ) (E : Writing Tree) where
   found_as : {a b : Tree} {mid rest : List Tok} (ts : List Tok) → ok a mid ≡ ok b rest → Found ts a mid → Found ts b rest
   found_as {b = b} {mid = mid} ts h r = subst (Found ts b) (ok_rest h) (subst (λ x. Found ts x mid) (ok_value h) r)
 
-  abbrev by_field : List ℕ → List Tok → reading.Field → Read Tree
-  by_field w ts f = elim f [ reading.no_dot ↦ ok (name w) ts | reading.dotted a us ↦ ok (field w a) us | reading.missing q ↦ form q ]
+  abbrev by_field : List ℕ → Read (Option (List ℕ)) → Read Tree
+  by_field w r = and_then r (λ a us. ok (name_or_field w a) us)
 
-  dotted_sound : (p q : ℕ) (w : List ℕ) (all ts : List Tok) (t : Tree) (rest : List Tok) → by_field w all (name_after end ts) ≡ ok t rest → Found ((p, lexeme.name w) ∷ (q, lexeme.mark mark.Dot) ∷ ts) t rest
-  dotted_sound p q w all [] t rest h = never_form h
-  dotted_sound p q w all ((r, lexeme.name a) ∷ ts) t rest h = found_as _ h ((p, lexeme.name w) ∷ (q, lexeme.mark mark.Dot) ∷ (r, lexeme.name a) ∷ [], refl, a_field p q r w a, and_false (front_dot ts))
-  dotted_sound p q w all ((r, lexeme.text a) ∷ ts) t rest h = never_form h
-  dotted_sound p q w all ((r, lexeme.number n) ∷ ts) t rest h = never_form h
-  dotted_sound p q w all ((r, lexeme.operator o) ∷ ts) t rest h = never_form h
-  dotted_sound p q w all ((r, lexeme.mark m) ∷ ts) t rest h = never_form h
-  dotted_sound p q w all ((r, lexeme.eoi) ∷ ts) t rest h = never_form h
-  dotted_sound p q w all ((r, lexeme.guard) ∷ ts) t rest h = never_form h
+  abbrev after_dot : List Tok → Read (Option (List ℕ))
+  after_dot ts = and_then (name_at end ts) (λ n us. ok (Some n.1) us)
 
-  name_sound : (p : ℕ) (w : List ℕ) (ts : List Tok) (t : Tree) (rest : List Tok) → by_field w ts (field_at end ts) ≡ ok t rest → Found ((p, lexeme.name w) ∷ ts) t rest
+  dotted_sound : (p q : ℕ) (w : List ℕ) (ts : List Tok) (t : Tree) (rest : List Tok) → by_field w (after_dot ts) ≡ ok t rest → Found ((p, lexeme.name w) ∷ (q, lexeme.mark mark.Dot) ∷ ts) t rest
+  dotted_sound p q w [] t rest h = cc
+  dotted_sound p q w ((r, lexeme.name a) ∷ ts) t rest h = found_as _ h ((p, lexeme.name w) ∷ (q, lexeme.mark mark.Dot) ∷ (r, lexeme.name a) ∷ [], refl, a_field p q r w a, and_false (front_dot ts))
+  dotted_sound p q w ((r, lexeme.text a) ∷ ts) t rest h = cc
+  dotted_sound p q w ((r, lexeme.number n) ∷ ts) t rest h = cc
+  dotted_sound p q w ((r, lexeme.operator o) ∷ ts) t rest h = cc
+  dotted_sound p q w ((r, lexeme.mark m) ∷ ts) t rest h = cc
+  dotted_sound p q w ((r, lexeme.eoi) ∷ ts) t rest h = cc
+  dotted_sound p q w ((r, lexeme.guard) ∷ ts) t rest h = cc
+
+  name_sound : (p : ℕ) (w : List ℕ) (ts : List Tok) (t : Tree) (rest : List Tok) → by_field w (field_at end ts) ≡ ok t rest → Found ((p, lexeme.name w) ∷ ts) t rest
   name_sound p w [] t rest h = found_as _ h ((p, lexeme.name w) ∷ [], refl, a_name p w, refl)
   name_sound p w (d ∷ ts) t rest h = go (is_mark mark.Dot d.1) refl h
     where
-      go : (b : Bool) → is_mark mark.Dot d.1 ≡ b → by_field w (d ∷ ts) (cond b (name_after end ts) reading.no_dot) ≡ ok t rest → Found ((p, lexeme.name w) ∷ d ∷ ts) t rest
+      go : (b : Bool) → is_mark mark.Dot d.1 ≡ b → by_field w (cond b (after_dot ts) (ok None (d ∷ ts))) ≡ ok t rest → Found ((p, lexeme.name w) ∷ d ∷ ts) t rest
       go false e h = found_as _ h ((p, lexeme.name w) ∷ [], refl, a_name p w, ap (λ b. b && true) e)
-      go true e h = subst (λ k. Found ((p, lexeme.name w) ∷ (d.0, k) ∷ ts) t rest) (sym (mark_is mark.Dot d.1 e)) (dotted_sound p d.0 w (d ∷ ts) ts t rest h)
+      go true e h = subst (λ k. Found ((p, lexeme.name w) ∷ (d.0, k) ∷ ts) t rest) (sym (mark_is mark.Dot d.1 e)) (dotted_sound p d.0 w ts t rest h)
 
   abbrev closing : Tree → List Tok → Read Tree
-  closing e rest = elim (closed_at end rest) [ reading.after us ↦ ok (bracketed e) us | reading.against q ↦ form q ]
+  closing e rest = and_then (mark_at mark.Close end rest) (λ _ us. ok (bracketed e) us)
 
   close_sound : (p : ℕ) (e : Tree) (us mid : List Tok) (t : Tree) (rest : List Tok) → E e us → closing e mid ≡ ok t rest → Found ((p, lexeme.mark mark.Open) ∷ us ++ mid) t rest
-  close_sound p e us [] t rest w h = never_form h
+  close_sound p e us [] t rest w h = cc
   close_sound p e us (c ∷ mid) t rest w h = go (is_mark mark.Close c.1) refl h
     where
-      go : (b : Bool) → is_mark mark.Close c.1 ≡ b → elim (cond b (reading.after mid) (reading.against c.0)) [ reading.after us ↦ ok (bracketed e) us | reading.against q ↦ form q ] ≡ ok t rest → Found ((p, lexeme.mark mark.Open) ∷ us ++ c ∷ mid) t rest
-      go false f h = never_form h
+      go : (b : Bool) → is_mark mark.Close c.1 ≡ b → and_then (cond b (ok (tt {0}) mid) (form c.0)) (λ _ us. ok (bracketed e) us) ≡ ok t rest → Found ((p, lexeme.mark mark.Open) ∷ us ++ c ∷ mid) t rest
+      go false f h = cc
       go true f h = found_as _ h (
         (p, lexeme.mark mark.Open) ∷ us ++ c ∷ [],
         ap (λ l. (p, lexeme.mark mark.Open) ∷ l) (sym (append_assoc us (c ∷ []) mid)),
@@ -378,8 +377,8 @@ module _ (end : ℕ) (E : Writing Tree) where
       )
 
   bracket_sound : (inner? : Option Reader) → Inside end inner? E → (p : ℕ) (m : Mark) (b : Bool) → same_mark m mark.Open ≡ b → (ts : List Tok) (t : Tree) (rest : List Tok) → cond b (elim inner? [ None ↦ deep p | Some read ↦ and_then (read ts) closing ]) (form p) ≡ ok t rest → Found ((p, lexeme.mark m) ∷ ts) t rest
-  bracket_sound inner? s p m false e ts t rest h = never_form h
-  bracket_sound None s p m true e ts t rest h = never_deep h
+  bracket_sound inner? s p m false e ts t rest h = cc
+  bracket_sound None s p m true e ts t rest h = cc
   bracket_sound (Some read) s p m true e ts t rest h =
       let parts = both_ok (read ts) closing t rest h in
       let first = s.sound ts parts.0 parts.1 parts.2 in
@@ -387,18 +386,18 @@ module _ (end : ℕ) (E : Writing Tree) where
       subst (λ k. Found ((p, k) ∷ ts) t rest) (sym (mark_is mark.Open (lexeme.mark m) e)) (subst (λ l. Found ((p, lexeme.mark mark.Open) ∷ l) t rest) (sym first.1) found)
 
   part_sound : (inner? : Option Reader) → Inside end inner? E → (ts : List Tok) (t : Tree) (rest : List Tok) → part_with end inner? ts ≡ ok t rest → Found ts t rest
-  part_sound inner? s [] t rest h = never_form h
+  part_sound inner? s [] t rest h = cc
   part_sound inner? s ((p, lexeme.name w) ∷ ts) t rest h = name_sound p w ts t rest h
-  part_sound inner? s ((p, lexeme.text w) ∷ ts) t rest h = never_form h
+  part_sound inner? s ((p, lexeme.text w) ∷ ts) t rest h = cc
   part_sound inner? s ((p, lexeme.number n) ∷ ts) t rest h = found_as _ h ((p, lexeme.number n) ∷ [], refl, a_number p n, and_false (front_dot ts))
-  part_sound inner? s ((p, lexeme.operator o) ∷ ts) t rest h = never_form h
+  part_sound inner? s ((p, lexeme.operator o) ∷ ts) t rest h = cc
   part_sound inner? s ((p, lexeme.mark m) ∷ ts) t rest h = bracket_sound inner? s p m (same_mark m mark.Open) refl ts t rest h
   part_sound inner? s ((p, lexeme.eoi) ∷ ts) t rest h = found_as _ h ((p, lexeme.eoi) ∷ [], refl, an_eoi p, and_false (front_dot ts))
-  part_sound inner? s ((p, lexeme.guard) ∷ ts) t rest h = never_form h
+  part_sound inner? s ((p, lexeme.guard) ∷ ts) t rest h = cc
 
-  name_complete : (w : List ℕ) (rest : List Tok) → AfterPart (name w) rest → by_field w rest (field_at end rest) ≡ ok (name w) rest
+  name_complete : (w : List ℕ) (rest : List Tok) → AfterPart (name w) rest → by_field w (field_at end rest) ≡ ok (name w) rest
   name_complete w [] c = refl
-  name_complete w (d ∷ rest) c = ap (λ b. by_field w (d ∷ rest) (cond b (name_after end rest) reading.no_dot)) (not_both (is_mark mark.Dot d.1) c)
+  name_complete w (d ∷ rest) c = ap (λ b. by_field w (cond b (after_dot rest) (ok None (d ∷ rest)))) (not_both (is_mark mark.Dot d.1) c)
 
   bracket_complete : (inner? : Option Reader) → Inside end inner? E → (p q : ℕ) (e : Tree) (ts rest : List Tok) → E e ts → part_with end inner? ((p, lexeme.mark mark.Open) ∷ (ts ++ (q, lexeme.mark mark.Close) ∷ []) ++ rest) ≡ ok (bracketed e) rest
   bracket_complete None s p q e ts rest w = absurd (s e ts w)
@@ -441,17 +440,17 @@ module _ (end : ℕ) (E : Writing Tree) where
   name_stuck inner? e p w (d ∷ ts) h = go (is_mark mark.Dot d.1) refl
     where
       go : (b : Bool) → is_mark mark.Dot d.1 ≡ b → Stuck end (part_with end inner?) (Part E) ((p, lexeme.name w) ∷ d ∷ ts) e
-      go false f = never_refused e (name w) (d ∷ ts) (subst (λ b. Refuses e (by_field w (d ∷ ts) (cond b (name_after end ts) reading.no_dot))) f h)
+      go false f = never_refused e (name w) (d ∷ ts) (subst (λ b. Refuses e (by_field w (cond b (after_dot ts) (ok None (d ∷ ts))))) f h)
       go true f =
           let is = mark_is mark.Dot d.1 f in
           subst (λ k. Stuck end (part_with end inner?) (Part E) ((p, lexeme.name w) ∷ (d.0, k) ∷ ts) e) (sym is) (dotted_stuck inner? e p d.0 w ts (subst (λ k. Refuses e (part_with end inner? ((p, lexeme.name w) ∷ (d.0, k) ∷ ts))) is h))
 
   closing_told : (x : Tree) (mid : List Tok) (e : Refusal) → Refuses e (closing x mid) → (place_told e ≡ place_of end mid) × ((t : Tok) (us : List Tok) → mid ≡ t ∷ us → (vs : List Tok) → Refuses e (closing x (t ∷ vs)))
-  closing_told x [] e h = (ap place_told (told_form Tree e end h), λ t us is vs. never_cons is)
+  closing_told x [] e h = (ap place_told (told_form Tree e end h), λ t us is vs. cc)
   closing_told x (c ∷ mid) e h = go (is_mark mark.Close c.1) refl
     where
       by : Bool → List Tok → Read Tree
-      by b vs = elim (cond b (reading.after vs) (reading.against c.0)) [ reading.after us ↦ ok (bracketed x) us | reading.against q ↦ form q ]
+      by b vs = and_then (cond b (ok (tt {0}) vs) (form c.0)) (λ _ us. ok (bracketed x) us)
 
       go : (b : Bool) → is_mark mark.Close c.1 ≡ b → (place_told e ≡ c.0) × ((t : Tok) (us : List Tok) → c ∷ mid ≡ t ∷ us → (vs : List Tok) → Refuses e (closing x (t ∷ vs)))
       go true f = never_refused e (bracketed x) mid (subst (λ b. Refuses e (by b mid)) f h)

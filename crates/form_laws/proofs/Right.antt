@@ -10,15 +10,6 @@ use Rattle.form_laws.specs.Grammar.{Writing}
 use Rattle.form_laws.specs.Law.{place_told, place_of}
 
 -- ---- readers' results
-pub never_form : {Z X : Type 0} {p : ℕ} {x : X} {rest : List Tok} → form p ≡ ok x rest → Z
-never_form h = let z : ◌≡◌ {A = ℕ} 0 1 = cc in absurd (omega arith)
-
-pub never_deep : {Z X : Type 0} {p : ℕ} {x : X} {rest : List Tok} → deep p ≡ ok x rest → Z
-never_deep h = let z : ◌≡◌ {A = ℕ} 0 1 = cc in absurd (omega arith)
-
-pub never_true : {Z : Type 0} → false ≡ true → Z
-never_true h = absurd (grind (arith, h))
-
 pub ok_value : {X : Type 0} {x y : X} {ts us : List Tok} → ok x ts ≡ ok y us → x ≡ y
 ok_value h = cc
 
@@ -27,8 +18,8 @@ ok_rest h = cc
 
 pub both_ok : {X Y : Type 0} (r : Read X) (k : X → List Tok → Read Y) (y : Y) (rest : List Tok) → and_then r k ≡ ok y rest → (x : X) × (mid : List Tok) × (r ≡ ok x mid) × (k x mid ≡ ok y rest)
 both_ok (ok x mid) k y rest h = (x, mid, refl, h)
-both_ok (form p) k y rest h = never_form h
-both_ok (deep p) k y rest h = never_deep h
+both_ok (form p) k y rest h = cc
+both_ok (deep p) k y rest h = cc
 
 -- what was read first, before what was read then
 pub after_both : (ts us mid vs rest : List Tok) → ts ≡ us ++ mid → mid ≡ vs ++ rest → ts ≡ (us ++ vs) ++ rest
@@ -69,24 +60,15 @@ Any x ts = Unit {0}
 
 -- ---- refusals
 pub never_refused : {Z X : Type 0} (e : Refusal) (x : X) (ts : List Tok) → Refuses e (ok x ts) → Z
-never_refused (Form p) x ts h = never_form (sym h)
-never_refused (Deep p) x ts h = never_deep (sym h)
-
-form_is : {X : Type 0} {p q : ℕ} → ◌≡◌ {A = Read X} (form p) (form q) → p ≡ q
-form_is h = cc
-
-deep_is : {X : Type 0} {p q : ℕ} → ◌≡◌ {A = Read X} (deep p) (deep q) → p ≡ q
-deep_is h = cc
-
-never_both : {Z X : Type 0} {p q : ℕ} → ◌≡◌ {A = Read X} (form p) (deep q) → Z
-never_both h = let z : ◌≡◌ {A = ℕ} 0 1 = cc in absurd (omega arith)
+never_refused (Form p) x ts h = cc (sym h)
+never_refused (Deep p) x ts h = cc (sym h)
 
 pub both_refused : {Z X Y : Type 0} (e : Refusal) (r : Read X) (k : X → List Tok → Read Y) → Refuses e (and_then r k) → (Refuses e r → Z) → ((x : X) (mid : List Tok) → r ≡ ok x mid → Refuses e (k x mid) → Z) → Z
 both_refused e (ok x mid) k h f g = g x mid refl h
-both_refused (Form q) (form p) k h f g = f (ap form (form_is h))
-both_refused (Deep q) (form p) k h f g = never_both h
-both_refused (Form q) (deep p) k h f g = never_both (sym h)
-both_refused (Deep q) (deep p) k h f g = f (ap deep (deep_is h))
+both_refused (Form q) (form p) k h f g = f (cc)
+both_refused (Deep q) (form p) k h f g = cc
+both_refused (Form q) (deep p) k h f g = cc (sym h)
+both_refused (Deep q) (deep p) k h f g = f (cc)
 
 pub ahead_on : {X : Type 0} (C : Writing X) → ((x : X) (t : Tok) (us vs : List Tok) → C x (t ∷ us) → C x (t ∷ vs)) → (x : X) (front : List Tok) (t : Tok) (us vs : List Tok) → C x (front ++ t ∷ us) → C x (front ++ t ∷ vs)
 ahead_on C ahead x [] t us vs c = ahead x t us vs c
@@ -105,15 +87,12 @@ stuck_by end read V read' W f e to too ts s = record {
 }
 
 pub told_form : (X : Type 0) (e : Refusal) (p : ℕ) → Refuses {X = X} e (form p) → e ≡ Form p
-told_form X (Form q) p h = ap Form (sym (form_is h))
-told_form X (Deep q) p h = never_both h
+told_form X (Form q) p h = cc
+told_form X (Deep q) p h = cc
 
 told_deep : (X : Type 0) (e : Refusal) (p : ℕ) → Refuses {X = X} e (deep p) → e ≡ Deep p
-told_deep X (Form q) p h = never_both (sym h)
-told_deep X (Deep q) p h = ap Deep (sym (deep_is h))
-
-pub never_cons : {Z : Type 0} {t : Tok} {us : List Tok} → [] ≡ t ∷ us → Z
-never_cons h = let z : ◌≡◌ {A = ℕ} 0 1 = cc in absurd (omega arith)
+told_deep X (Form q) p h = cc (sym h)
+told_deep X (Deep q) p h = cc
 
 pub same_front : {t u : Tok} {ts us : List Tok} → t ∷ ts ≡ u ∷ us → t ≡ u
 same_front h = cc
@@ -121,7 +100,7 @@ same_front h = cc
 module _ {X : Type 0} (end : ℕ) (read : Reads X) (W : Writing X) (e : Refusal) (start : (x : X) × (us : List Tok) × W x us) where
   -- tokens are wanting
   pub stuck_end : read [] ≡ form end → Refuses e (read []) → Stuck end read W [] e
-  stuck_end is h = record { front = []; rest = []; split = refl; place = ap place_told (told_form X e end (subst (Refuses e) is h)); others = start.1; made = start.0; written = start.2; dead = λ t us no_token vs. never_cons no_token }
+  stuck_end is h = record { front = []; rest = []; split = refl; place = ap place_told (told_form X e end (subst (Refuses e) is h)); others = start.1; made = start.0; written = start.2; dead = λ t us no_token vs. cc }
 
   -- the first token is refused
   stuck_first : (t : Tok) (ts : List Tok) → place_told e ≡ t.0 → ((vs : List Tok) → Refuses e (read (t ∷ vs))) → Stuck end read W (t ∷ ts) e
@@ -255,11 +234,11 @@ Token k x ts = One k ts
 
 module _ (k : Lexeme) (test : Lexeme → Bool) (is : (j : Lexeme) → test j ≡ true → j ≡ k) (self : test k ≡ true) (end : ℕ) (read : Reads (Unit {0})) (none : read [] ≡ form end) (some : (t : Tok) (ts : List Tok) → read (t ∷ ts) ≡ cond (test t.1) (ok tt ts) (form t.0)) where
   token_sound : (ts : List Tok) (x : Unit {0}) (rest : List Tok) → read ts ≡ ok x rest → (us : List Tok) × (ts ≡ us ++ rest) × One k us × Unit {0}
-  token_sound [] x rest h = never_form (sym none ∙ h)
+  token_sound [] x rest h = cc (sym none ∙ h)
   token_sound (t ∷ ts) x rest h = go (test t.1) refl (sym (some t ts) ∙ h)
     where
       go : (b : Bool) → test t.1 ≡ b → cond b (ok tt ts) (form t.0) ≡ ok x rest → (us : List Tok) × (t ∷ ts ≡ us ++ rest) × One k us × Unit {0}
-      go false e h = never_form h
+      go false e h = cc
       go true e h = (t ∷ [], ap (λ l. t ∷ l) (ok_rest h), subst (λ j. One k ((t.0, j) ∷ [])) (sym (is t.1 e)) (the t.0), tt)
 
   token_complete : (x : Unit {0}) (us rest : List Tok) → One k us → Unit {0} → read (us ++ rest) ≡ ok x rest

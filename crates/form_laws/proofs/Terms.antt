@@ -2,16 +2,16 @@
 use Rattle.std.proofs.Common.{◌≡◌, ℕ, Bool, true, false, cond, ◌&&◌, List, [], ◌∷◌, ◌++◌, sym, refl, ap, subst}
 use Rattle.token.specs.declared.Mark.{Mark}
 use Rattle.token.specs.declared.Mark.TheVariants as mark
-use Rattle.token.specs.declared.Op.TheVariants as op
+use Rattle.operators.specs.declared.Op.TheVariants as op
 use Rattle.token.specs.Tokens.{Tok, Lexeme, is_mark, same_mark, is_operator}
 use Rattle.token.specs.Tokens as lexeme
 use Rattle.expr.specs.Trees.{Tree}
 use Rattle.expr.specs.declared.Refusal.{Refusal}
-use Rattle.expr.specs.Reading.{Refuses, ok, form, and_then}
-use Rattle.term.specs.Form.{TermTree, mark_at, equals_at, name_at, expr_at, range_at, attribute_at, guard_at, term_at}
+use Rattle.expr.specs.Reading.{Refuses, ok, form, and_then, mark_at, name_at}
+use Rattle.term.specs.Form.{TermTree, equals_at, expr_at, range_at, attribute_at, guard_at, term_at}
 use Rattle.term.specs.Form as term
 use Rattle.form_laws.specs.Grammar.{Writing, Expression, Window, a_window, Term, a_literal, a_call, an_attribute, a_guard}
-use Rattle.form_laws.proofs.Right.{Stuck, never_refused, stuck_end, stuck_token, stuck_shift, stuck_by, never_form, ok_value, ok_rest, Reads, Right, Any, right_by, Seq, seq, seq_right, Done, done, done_right, Mapped, mapped, mapped_right, the, Token, token_right}
+use Rattle.form_laws.proofs.Right.{Stuck, never_refused, stuck_end, stuck_token, stuck_shift, stuck_by, ok_value, ok_rest, Reads, Right, Any, right_by, Seq, seq, seq_right, Done, done, done_right, Mapped, mapped, mapped_right, the, Token, token_right}
 use Rattle.form_laws.proofs.Tokens.{mark_is, mark_self, op_is}
 use Rattle.form_laws.proofs.Expressions.{AfterExpression, bare, expression_right}
 
@@ -26,14 +26,14 @@ pub data Named : ℕ × List ℕ → List Tok → Type 0 where
 
 module _ (end : ℕ) where
   name_sound : (ts : List Tok) (x : ℕ × List ℕ) (rest : List Tok) → name_at end ts ≡ ok x rest → (us : List Tok) × (ts ≡ us ++ rest) × Named x us × Unit {0}
-  name_sound [] x rest h = never_form h
+  name_sound [] x rest h = cc
   name_sound ((p, lexeme.name w) ∷ ts) x rest h = ((p, lexeme.name w) ∷ [], ap (λ l. (p, lexeme.name w) ∷ l) (ok_rest h), subst (λ y. Named y ((p, lexeme.name w) ∷ [])) (ok_value h) (named p w), tt)
-  name_sound ((p, lexeme.text w) ∷ ts) x rest h = never_form h
-  name_sound ((p, lexeme.number n) ∷ ts) x rest h = never_form h
-  name_sound ((p, lexeme.operator o) ∷ ts) x rest h = never_form h
-  name_sound ((p, lexeme.mark m) ∷ ts) x rest h = never_form h
-  name_sound ((p, lexeme.eoi) ∷ ts) x rest h = never_form h
-  name_sound ((p, lexeme.guard) ∷ ts) x rest h = never_form h
+  name_sound ((p, lexeme.text w) ∷ ts) x rest h = cc
+  name_sound ((p, lexeme.number n) ∷ ts) x rest h = cc
+  name_sound ((p, lexeme.operator o) ∷ ts) x rest h = cc
+  name_sound ((p, lexeme.mark m) ∷ ts) x rest h = cc
+  name_sound ((p, lexeme.eoi) ∷ ts) x rest h = cc
+  name_sound ((p, lexeme.guard) ∷ ts) x rest h = cc
 
   name_complete : (x : ℕ × List ℕ) (us rest : List Tok) → Named x us → Unit {0} → name_at end (us ++ rest) ≡ ok x rest
   name_complete _ _ rest (named p w) c = refl
@@ -119,17 +119,17 @@ module _ (end : ℕ) where
   call_right w = mapped_right end (λ e. term.call w e.0 e.1) (range_at end) Window (window_right end)
 
   curly_sound : (p : ℕ) (m : Mark) (b : Bool) → same_mark m mark.OpenCurly ≡ b → (ts : List Tok) (t : TermTree) (rest : List Tok) → cond b (attribute_at end ts) (form p) ≡ ok t rest → Found ((p, lexeme.mark m) ∷ ts) t rest
-  curly_sound p m false e ts t rest h = never_form h
+  curly_sound p m false e ts t rest h = cc
   curly_sound p m true e ts t rest h = subst (λ k. Found ((p, k) ∷ ts) t rest) (sym (mark_is mark.OpenCurly (lexeme.mark m) e)) (led AttributeParts (p, lexeme.mark mark.OpenCurly) ts t rest (attribute_to p t) ((attribute_right end).sound ts t rest h))
 
   term_sound : (ts : List Tok) (t : TermTree) (rest : List Tok) → term_at end ts ≡ ok t rest → Found ts t rest
-  term_sound [] t rest h = never_form h
+  term_sound [] t rest h = cc
   term_sound ((p, lexeme.name w) ∷ ts) t rest h = led (Mapped (λ e. term.call w e.0 e.1) Window) (p, lexeme.name w) ts t rest (call_to p w t) ((call_right w).sound ts t rest h)
   term_sound ((p, lexeme.text w) ∷ ts) t rest h = led (Mapped (λ e. term.literal w e.0 e.1) Window) (p, lexeme.text w) ts t rest (literal_to p w t) ((literal_right w).sound ts t rest h)
-  term_sound ((p, lexeme.number n) ∷ ts) t rest h = never_form h
-  term_sound ((p, lexeme.operator o) ∷ ts) t rest h = never_form h
+  term_sound ((p, lexeme.number n) ∷ ts) t rest h = cc
+  term_sound ((p, lexeme.operator o) ∷ ts) t rest h = cc
   term_sound ((p, lexeme.mark m) ∷ ts) t rest h = curly_sound p m (same_mark m mark.OpenCurly) refl ts t rest h
-  term_sound ((p, lexeme.eoi) ∷ ts) t rest h = never_form h
+  term_sound ((p, lexeme.eoi) ∷ ts) t rest h = cc
   term_sound ((p, lexeme.guard) ∷ ts) t rest h = led GuardParts (p, lexeme.guard) ts t rest (guard_to p t) ((guard_right end).sound ts t rest h)
 
   term_complete : (t : TermTree) (us rest : List Tok) → Term t us → Unit {0} → term_at end (us ++ rest) ≡ ok t rest

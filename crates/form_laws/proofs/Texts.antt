@@ -1,16 +1,17 @@
 -- Alternatives, rules and texts are read as the grammar writes them.
 use Rattle.std.proofs.Common.{◌≡◌, ℕ, ◌≤◌, Bool, true, false, cond, List, [], ◌∷◌, ◌++◌, length, sym, refl, ap, ◌∙◌, subst, append_assoc, append-nil, arith, length-append}
 use Rattle.token.specs.declared.Mark.TheVariants as mark
-use Rattle.token.specs.declared.Op.TheVariants as op
+use Rattle.operators.specs.declared.Op.TheVariants as op
 use Rattle.token.specs.Tokens.{Tok, Lexeme, is_mark, is_operator}
 use Rattle.token.specs.Tokens as lexeme
 use Rattle.expr.specs.declared.Refusal.{Refusal}
 use Rattle.expr.specs.Reading.{Refuses, Read, ok, form, and_then}
-use Rattle.term.specs.Form.{TermTree, name_at, term_at}
+use Rattle.expr.specs.Reading.{name_at}
+use Rattle.term.specs.Form.{TermTree, term_at}
 use Rattle.rule.specs.Form.{RuleTree, several, at_stop, none_left, term_item, terms_at, branch_end, alternative_at, alternatives_at, rule_at, rules_at}
 use Rattle.form_laws.specs.Grammar.{Writing, Term, a_literal, a_call, an_attribute, a_guard, Several, one, more, Parted, whole, parted, Rule, a_rule, Text}
 use Rattle.form_laws.specs.Law.{FormIsGrammar, RefusalsAreFirst}
-use Rattle.form_laws.proofs.Right.{Stuck, never_refused, stuck_end, stuck_token, never_form, never_true, ok_value, ok_rest, Right, Any, right_by, Seq, seq, seq_right, Done, done, done_right, Flagged, flagged, flagged_right, Told, One, the, Token, Run, last, on, several_right}
+use Rattle.form_laws.proofs.Right.{Stuck, never_refused, stuck_end, stuck_token, ok_value, ok_rest, Right, Any, right_by, Seq, seq, seq_right, Done, done, done_right, Flagged, flagged, flagged_right, Told, One, the, Token, Run, last, on, several_right}
 use Rattle.form_laws.proofs.Tokens.{mark_is, op_is}
 use Rattle.form_laws.proofs.Terms.{Named, named, name_right, mark_then, term_right}
 
@@ -53,7 +54,7 @@ module _ (end : ℕ) where
 -- ---- alternatives
 -- what stands after an alternative
 abbrev ending : Bool → Lexeme
-ending false = lexeme.operator op.Over
+ending false = lexeme.operator op.Divide
 ending true = lexeme.mark mark.Semicolon
 
 abbrev Branch : Writing Bool
@@ -61,16 +62,16 @@ Branch b ts = One (ending b) ts
 
 module _ (end : ℕ) where
   branch_sound : (ts : List Tok) (b : Bool) (rest : List Tok) → branch_end end ts ≡ ok b rest → (us : List Tok) × (ts ≡ us ++ rest) × Branch b us × Unit {0}
-  branch_sound [] b rest h = never_form h
-  branch_sound (t ∷ ts) b rest h = go (is_operator op.Over t.1) (is_mark mark.Semicolon t.1) refl refl h
+  branch_sound [] b rest h = cc
+  branch_sound (t ∷ ts) b rest h = go (is_operator op.Divide t.1) (is_mark mark.Semicolon t.1) refl refl h
     where
       as_read : (c : Bool) → t.1 ≡ ending c → ok c ts ≡ ok b rest → (us : List Tok) × (t ∷ ts ≡ us ++ rest) × Branch b us × Unit {0}
       as_read c e h = (t ∷ [], ap (λ l. t ∷ l) (ok_rest h), subst (λ b. One (ending b) (t ∷ [])) (ok_value h) (subst (λ k. One (ending c) ((t.0, k) ∷ [])) (sym e) (the t.0)), tt)
 
-      go : (x y : Bool) → is_operator op.Over t.1 ≡ x → is_mark mark.Semicolon t.1 ≡ y → cond x (ok false ts) (cond y (ok true ts) (form t.0)) ≡ ok b rest → (us : List Tok) × (t ∷ ts ≡ us ++ rest) × Branch b us × Unit {0}
-      go true y e f h = as_read false (op_is op.Over t.1 e) h
+      go : (x y : Bool) → is_operator op.Divide t.1 ≡ x → is_mark mark.Semicolon t.1 ≡ y → cond x (ok false ts) (cond y (ok true ts) (form t.0)) ≡ ok b rest → (us : List Tok) × (t ∷ ts ≡ us ++ rest) × Branch b us × Unit {0}
+      go true y e f h = as_read false (op_is op.Divide t.1 e) h
       go false true e f h = as_read true (mark_is mark.Semicolon t.1 f) h
-      go false false e f h = never_form h
+      go false false e f h = cc
 
   branch_complete : (b : Bool) (us rest : List Tok) → Branch b us → Unit {0} → branch_end end (us ++ rest) ≡ ok b rest
   branch_complete true _ rest (the p) c = refl
@@ -81,12 +82,12 @@ module _ (end : ℕ) where
 
   branch_stuck : (ts : List Tok) (e : Refusal) → Refuses e (branch_end end ts) → Stuck end (branch_end end) Branch ts e
   branch_stuck [] e h = stuck_end end (branch_end end) Branch e some_branch refl h
-  branch_stuck (t ∷ ts) e h = go (is_operator op.Over t.1) (is_mark mark.Semicolon t.1) refl refl
+  branch_stuck (t ∷ ts) e h = go (is_operator op.Divide t.1) (is_mark mark.Semicolon t.1) refl refl
     where
       by : Bool → Bool → List Tok → Read Bool
       by x y vs = cond x (ok false vs) (cond y (ok true vs) (form t.0))
 
-      go : (x y : Bool) → is_operator op.Over t.1 ≡ x → is_mark mark.Semicolon t.1 ≡ y → Stuck end (branch_end end) Branch (t ∷ ts) e
+      go : (x y : Bool) → is_operator op.Divide t.1 ≡ x → is_mark mark.Semicolon t.1 ≡ y → Stuck end (branch_end end) Branch (t ∷ ts) e
       go true y f g = never_refused e false ts (subst (λ x. Refuses e (by x (is_mark mark.Semicolon t.1) ts)) f h)
       go false true f g = never_refused e true ts (subst (λ y. Refuses e (by false y ts)) g (subst (λ x. Refuses e (by x (is_mark mark.Semicolon t.1) ts)) f h))
       go false false f g = stuck_token end (branch_end end) Branch e some_branch t ts (λ vs. ap (λ x. by x (is_mark mark.Semicolon t.1) vs) f ∙ ap (λ y. by false y vs) g) h
@@ -121,8 +122,8 @@ pub data Alternatives : List (List TermTree) → List Tok → Type 0 where
 regroup : (ts : List Tok) (x : Tok) (us vs : List Tok) → (ts ++ x ∷ []) ++ (us ++ vs) ≡ (ts ++ x ∷ us) ++ vs
 regroup ts x us vs = append_assoc ts (x ∷ []) (us ++ vs) ∙ sym (append_assoc ts (x ∷ us) vs)
 
-one_more : (a : List TermTree) (ts : List Tok) (p : ℕ) → Several Term a ts → (bs : List (List TermTree)) (us : List Tok) → Alternatives bs us → Alternatives (a ∷ bs) ((ts ++ (p, lexeme.operator op.Over) ∷ []) ++ us)
-one_more a ts p w _ _ (closed r bs us v) = subst (Alternatives (a ∷ bs)) (sym (regroup ts (p, lexeme.operator op.Over) us ((r, lexeme.mark mark.Semicolon) ∷ []))) (closed r (a ∷ bs) (ts ++ (p, lexeme.operator op.Over) ∷ us) (parted a bs p ts us w v))
+one_more : (a : List TermTree) (ts : List Tok) (p : ℕ) → Several Term a ts → (bs : List (List TermTree)) (us : List Tok) → Alternatives bs us → Alternatives (a ∷ bs) ((ts ++ (p, lexeme.operator op.Divide) ∷ []) ++ us)
+one_more a ts p w _ _ (closed r bs us v) = subst (Alternatives (a ∷ bs)) (sym (regroup ts (p, lexeme.operator op.Divide) us ((r, lexeme.mark mark.Semicolon) ∷ []))) (closed r (a ∷ bs) (ts ++ (p, lexeme.operator op.Divide) ∷ us) (parted a bs p ts us w v))
 
 alternatives_to : (bs : List (List TermTree)) (us : List Tok) → Run Alternative bs us → Alternatives bs us
 alternatives_to _ _ (last a us w) =
@@ -134,7 +135,7 @@ alternatives_to _ _ (on a bs us vs w r) =
 
 parted_run : (r : ℕ) (bs : List (List TermTree)) (ts : List Tok) → Parted (Several Term) bs ts → Run Alternative bs (ts ++ (r, lexeme.mark mark.Semicolon) ∷ [])
 parted_run r _ _ (whole a ts w) = last a (ts ++ (r, lexeme.mark mark.Semicolon) ∷ []) (alternative_of a true ts r w)
-parted_run r _ _ (parted a bs p ts us w v) = subst (Run Alternative (a ∷ bs)) (regroup ts (p, lexeme.operator op.Over) us ((r, lexeme.mark mark.Semicolon) ∷ [])) (on a bs (ts ++ (p, lexeme.operator op.Over) ∷ []) (us ++ (r, lexeme.mark mark.Semicolon) ∷ []) (alternative_of a false ts p w) (parted_run r bs us v))
+parted_run r _ _ (parted a bs p ts us w v) = subst (Run Alternative (a ∷ bs)) (regroup ts (p, lexeme.operator op.Divide) us ((r, lexeme.mark mark.Semicolon) ∷ [])) (on a bs (ts ++ (p, lexeme.operator op.Divide) ∷ []) (us ++ (r, lexeme.mark mark.Semicolon) ∷ []) (alternative_of a false ts p w) (parted_run r bs us v))
 
 alternatives_from : (bs : List (List TermTree)) (us : List Tok) → Alternatives bs us → Run Alternative bs us
 alternatives_from _ _ (closed r bs ts v) = parted_run r bs ts v
@@ -174,7 +175,7 @@ module _ (end : ℕ) where
 -- ---- the law
 none_is : (rest : List Tok) → none_left rest ≡ true → rest ≡ []
 none_is [] h = refl
-none_is (t ∷ ts) h = never_true h
+none_is (t ∷ ts) h = cc
 
 read_whole : (end : ℕ) (ts : List Tok) (rs : List RuleTree) → Text rs ts → rules_at end ts ≡ ok rs []
 read_whole end ts rs w = ap (rules_at end) (sym (append-nil ts)) ∙ (text_right end).complete rs ts [] w refl

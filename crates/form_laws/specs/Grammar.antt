@@ -1,8 +1,8 @@
 -- The grammar of texts: which tokens write which rules, a constructor for each line of the form. No reader is in sight.
 use Rattle.std.specs.Prelude.{◌≡◌, ℕ, zero, suc, List, [], ◌∷◌, ◌++◌}
 use Rattle.token.specs.declared.Mark.TheVariants as mark
-use Rattle.token.specs.declared.Op.{Op}
-use Rattle.token.specs.declared.Op.TheVariants as op
+use Rattle.operators.specs.declared.Op.{Op}
+use Rattle.operators.specs.declared.Op.TheVariants as op
 use Rattle.token.specs.Tokens.{Tok}
 use Rattle.token.specs.Tokens as lexeme
 use Rattle.expr.specs.declared.Level.{Level}
@@ -71,7 +71,7 @@ pub data Several {X : Type 0} (W : Writing X) : List X → List Tok → Type 0 w
 -- one or more things with `/` between them
 pub data Parted {X : Type 0} (W : Writing X) : List X → List Tok → Type 0 where
   whole : (x : X) (ts : List Tok) → W x ts → Parted W (x ∷ []) ts
-  parted : (x : X) (xs : List X) (p : ℕ) (ts us : List Tok) → W x ts → Parted W xs us → Parted W (x ∷ xs) (ts ++ (p, lexeme.operator op.Over) ∷ us)
+  parted : (x : X) (xs : List X) (p : ℕ) (ts us : List Tok) → W x ts → Parted W xs us → Parted W (x ∷ xs) (ts ++ (p, lexeme.operator op.Divide) ∷ us)
 
 -- a name, `:`, alternatives of one or more terms, `;`
 pub data Rule : RuleTree → List Tok → Type 0 where

@@ -1,12 +1,11 @@
 -- Stored terms and rules have the names of the trees that they show.
-use Rattle.std.proofs.Common.{◌≡◌, ℕ, ◌||◌, List, [], ◌∷◌, map, refl, ap, ◌∙◌}
+use Rattle.std.proofs.Common.{◌≡◌, ℕ, List, [], ◌∷◌, map, refl, ap, ◌∙◌}
 use Rattle.code.specs.Pieces.{Piece}
 use Rattle.term.specs.Tables.{Tables, Entry}
 use Rattle.term.specs.Tables as entry
 use Rattle.draft.specs.Shown.{shown_term, shown_rule, alternatives_of, rules_of}
-use Rattle.names.specs.Names.{any, attribute_is}
-use Rattle.lookup.specs.Lookup.{called, sets, rule_names, among, is_name}
-use Rattle.lookup.specs.Stored.{head_names, called_entry, sets_entry}
+use Rattle.lookup.specs.Lookup.{called, sets, rule_names}
+use Rattle.names.specs.Stored.{head_names, called_entry, sets_entry}
 
 pub called_agrees : (code : List Piece) (bytes : List ℕ) (x : Entry) → called (shown_term code bytes x) ≡ called_entry x
 called_agrees code bytes (entry.literal s e) = refl
@@ -32,14 +31,3 @@ all_set code bytes xs = map_agrees sets (shown_term code bytes) sets_entry (sets
 
 pub names_agree : (T : Tables) → rule_names (rules_of T) ≡ head_names T.rules
 names_agree T = map_agrees (λ r. r.name) (shown_rule (alternatives_of T)) (λ h. h.name) (λ h. refl) T.rules
-
--- two ways to say that an attribute is set
-attribute_agrees : (w : List ℕ) (x : Entry) → attribute_is w x ≡ is_name (sets_entry x) w
-attribute_agrees w (entry.literal s e) = refl
-attribute_agrees w (entry.call v e) = refl
-attribute_agrees w (entry.attribute p v s) = refl
-attribute_agrees w (entry.guard s) = refl
-
-pub among_agrees : (w : List ℕ) (xs : List Entry) → any (attribute_is w) xs ≡ among (map sets_entry xs) w
-among_agrees w [] = refl
-among_agrees w (x ∷ xs) = ap (λ b. b || any (attribute_is w) xs) (attribute_agrees w x) ∙ ap (λ b. is_name (sets_entry x) w || b) (among_agrees w xs)

@@ -1,6 +1,6 @@
 -- A grammar with its names resolved: rules, field readers, attributes and earlier calls all go by number.
 use Rattle.std.specs.Prelude.{ℕ, List}
-use Rattle.meaning.specs.declared.op.Op.{Op}
+use Rattle.operators.specs.declared.Op.{Op}
 
 -- An expression of a term. Attributes go by their slot, an earlier call of the same alternative by its term number.
 pub data Expr : Type 0 where

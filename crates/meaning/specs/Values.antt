@@ -1,29 +1,13 @@
 -- The value of an expression, and the window of a term. None is the missing value.
-use Rattle.std.specs.Prelude.{ℕ, zero, suc, ◌+◌, ◌-◌, ◌*◌, ◌/◌, ◌%◌, ◌^◌, cond, ◌&&◌, List, [], ◌∷◌, Some, None, Option, ◌==◌, nat_le, nat_lt}
+use Rattle.std.specs.Prelude.{ℕ, zero, suc, ◌+◌, ◌-◌, cond, ◌&&◌, List, [], ◌∷◌, Some, None, Option, ◌==◌}
 use Rattle.input.specs.Bytes.{in_order}
+use Rattle.operators.specs.Applied.{applied}
 use Rattle.meaning.specs.Syntax.{Expr}
 use Rattle.meaning.specs.Syntax.Expr.{number, eoi, own, of_call, start_of, end_of, binary}
 use Rattle.meaning.specs.Windows.{size}
 use Rattle.meaning.specs.declared.node.Node.{Node}
-use Rattle.meaning.specs.declared.op.Op.{Op}
-use Rattle.meaning.specs.declared.op.Op.TheVariants.{Plus, Minus, Times, Divide, Remainder, Shift, Equal, Less}
 use Rattle.meaning.specs.declared.run.Start.{Start}
 use Rattle.meaning.specs.declared.window.Window.{Window}
-
--- a number, if it is below 2^64
-unfoldable pub in_range : ℕ → Option ℕ
-in_range n = cond (nat_lt n (2 ^ 64)) (Some n) None
-
--- two numbers joined by an operator. A quotient drops to the whole one; a comparison gives 1 or 0
-unfoldable pub applied : Op → ℕ → ℕ → Option ℕ
-applied Plus p q = in_range (p + q)
-applied Minus p q = cond (nat_le q p) (Some (p - q)) None
-applied Times p q = in_range (p * q)
-applied Divide p q = cond (q == 0) None (Some (p / q))
-applied Remainder p q = cond (q == 0) None (Some (p % q))
-applied Shift p q = cond (nat_lt q 64) (in_range (p * 2 ^ q)) None
-applied Equal p q = cond (p == q) (Some 1) (Some 0)
-applied Less p q = cond (nat_lt p q) (Some 1) (Some 0)
 
 -- what is made of a value, if there is one
 unfoldable pub if_some : {A B : Type 0} → Option A → (A → Option B) → Option B

@@ -5,12 +5,10 @@
 pub mod answer;
 pub mod laws;
 pub mod node;
-pub mod op;
 pub mod run;
 pub mod window;
 
 pub use answer::Answer;
 pub use node::{Node, find_call};
-pub use op::{Op, apply};
 pub use run::{Limits, Start, State};
 pub use window::{Window, join};

@@ -1,14 +1,15 @@
 -- A loop that reads one item after another.
 use Rattle.std.proofs.Common.{◌≡◌, ℕ, zero, suc, ◌<◌, ◌≤◌, Bool, true, false, cond, List, [], ◌∷◌, ◌++◌, length, Ok, Err, sym, refl, ap, ◌∙◌, subst, append_assoc, arith}
-use Rattle.token.specs.Tokens.{Tok, tokens_at}
+use Rattle.token.specs.Tokens.{Tok}
 use Rattle.expr.specs.declared.Refusal.{Refusal}
 use Rattle.expr.specs.Reading.{Read, ok, form, deep, and_then, Refuses}
 use Rattle.expr.proofs.Turns.{refused_too}
 use Rattle.term.specs.Tables.{Tables, Kept}
 use Rattle.term.specs.Reading.{Adds}
-use Rattle.term.proofs.Puts.{kept_same, kept_on}
+use Rattle.term.proofs.Puts.{kept_on}
 use Rattle.rule.specs.Form.{several}
 use Rattle.rule.specs.Emission.{emit_all}
+use Rattle.rule.specs.Keeping.{emit_kept}
 use Rattle.rule.specs.Reading.{AddsItem}
 
 -- items before what is read
@@ -29,10 +30,6 @@ joined_more sofar x (deep p) = refl
 pub emit_more : {X : Type 0} (emit : Tables → X → Tables) (T : Tables) (xs : List X) (x : X) → emit_all emit T (xs ++ x ∷ []) ≡ emit (emit_all emit T xs) x
 emit_more emit T [] x = refl
 emit_more emit T (y ∷ xs) x = emit_more emit (emit T y) xs x
-
-pub emit_kept : {X : Type 0} (emit : Tables → X → Tables) → ((T : Tables) (x : X) → Kept T (emit T x)) → (T : Tables) (xs : List X) → Kept T (emit_all emit T xs)
-emit_kept emit kept T [] = kept_same T
-emit_kept emit kept T (x ∷ xs) = kept_on T (emit T x) (emit_all emit (emit T x) xs) (kept T x) (emit_kept emit kept (emit T x) xs)
 
 module _ {X : Type 0} (item : List Tok → Read (X × Bool)) where
   several_last : (n : ℕ) (ts us : List Tok) (x : X) → item ts ≡ ok (x, true) us → several item n ts ≡ ok (x ∷ []) us
@@ -59,27 +56,27 @@ module _ {X : Type 0} (item : List Tok → Read (X × Bool)) (emit : Tables → 
   pub begins : Going item emit toks toks T T
   begins = record { sofar = []; turns = length toks; enough = omega arith; whole = joined_none (several item (length toks) toks); grown = refl }
 
-  module _ (text : List ℕ) (at : ℕ) (U : Tables) (going : Going item emit toks (tokens_at text at) T U) where
-    pub ends : (to : ℕ) (V : Tables) → AddsItem text (Ok (true, to)) (item (tokens_at text at)) emit U V → Adds text (Ok to) (several item (length toks) toks) (emit_all emit) T V
-    ends to V told = (
+  module _ (rest : List Tok) (U : Tables) (going : Going item emit toks rest T U) where
+    pub ends : (left : List Tok) (V : Tables) → AddsItem (Ok true) (item rest) left emit U V → Adds (Ok tt) (several item (length toks) toks) left (emit_all emit) T V
+    ends left V told = (
       going.sofar ++ told.0 ∷ [],
-      going.whole ∙ ap (joined going.sofar) (several_last item going.turns (tokens_at text at) (tokens_at text to) told.0 told.1),
+      going.whole ∙ ap (joined going.sofar) (several_last item going.turns rest left told.0 told.1),
       told.2 ∙ ap (λ u. emit u told.0) going.grown ∙ sym (emit_more emit T going.sofar told.0),
     )
 
-    pub refused : ((T : Tables) (x : X) → Kept T (emit T x)) → (e : Refusal) (V : Tables) → AddsItem text (Err e) (item (tokens_at text at)) emit U V → Adds text (Err e) (several item (length toks) toks) (emit_all emit) T V
-    refused kept e V told = (
-      subst (Refuses e) (sym going.whole) (refused_too e (several item going.turns (tokens_at text at)) _ (several_refused item going.turns (tokens_at text at) e told.0)),
+    pub refused : ((T : Tables) (x : X) → Kept T (emit T x)) → (e : Refusal) (left : List Tok) (V : Tables) → AddsItem (Err e) (item rest) left emit U V → Adds (Err e) (several item (length toks) toks) left (emit_all emit) T V
+    refused kept e left V told = (
+      subst (Refuses e) (sym going.whole) (refused_too e (several item going.turns rest) _ (several_refused item going.turns rest e told.0)),
       kept_on T U V (subst (Kept T) (sym going.grown) (emit_kept emit kept T going.sofar)) told.1,
     )
 
-    pub goes_on : (to : ℕ) (V : Tables) → AddsItem text (Ok (false, to)) (item (tokens_at text at)) emit U V → length (tokens_at text to) < length (tokens_at text at) → Going item emit toks (tokens_at text to) T V
-    goes_on to V told short =
-        let step = several_more item going.turns (tokens_at text at) (tokens_at text to) told.0 told.1 (omega (arith, going.enough)) in
+    pub goes_on : (left : List Tok) (V : Tables) → AddsItem (Ok false) (item rest) left emit U V → length left < length rest → Going item emit toks left T V
+    goes_on left V told short =
+        let step = several_more item going.turns rest left told.0 told.1 (omega (arith, going.enough)) in
         record {
           sofar = going.sofar ++ told.0 ∷ [];
           turns = step.0;
           enough = step.1;
-          whole = going.whole ∙ ap (joined going.sofar) step.2 ∙ joined_more going.sofar told.0 (several item step.0 (tokens_at text to));
+          whole = going.whole ∙ ap (joined going.sofar) step.2 ∙ joined_more going.sofar told.0 (several item step.0 left);
           grown = told.2 ∙ ap (λ u. emit u told.0) going.grown ∙ sym (emit_more emit T going.sofar told.0);
         }

@@ -1,7 +1,7 @@
 -- What alternatives and rules add to the tables.
 use Rattle.std.specs.Prelude.{List, [], ◌∷◌}
 use Rattle.arena.specs.Bounded.{upto}
-use Rattle.term.specs.declared.arenas.Span.{Span}
+use Rattle.arena.specs.declared.span.Span.{Span}
 use Rattle.term.specs.Form.{TermTree}
 use Rattle.term.specs.Tables.{Tables, Head, between, emit_term}
 use Rattle.rule.specs.Form.{RuleTree}

@@ -1,10 +1,11 @@
 -- The form of alternatives, rules and texts: how they are read from the front of a list of tokens; `end` is the text's length, told where tokens are wanting.
 use Rattle.std.specs.Prelude.{ℕ, zero, suc, Bool, true, false, cond, ◌||◌, List, [], ◌∷◌, length}
 use Rattle.token.specs.declared.Mark.TheVariants as mark
-use Rattle.token.specs.declared.Op.TheVariants as op
+use Rattle.operators.specs.declared.Op.TheVariants as op
 use Rattle.token.specs.Tokens.{Tok, is_mark, is_operator}
 use Rattle.expr.specs.Reading.{Read, ok, form, and_then}
-use Rattle.term.specs.Form.{TermTree, mark_at, name_at, term_at}
+use Rattle.expr.specs.Reading.{mark_at, name_at}
+use Rattle.term.specs.Form.{TermTree, term_at}
 
 -- a rule by name: the name with its place, and the alternatives, each one or more terms
 pub record RuleTree : Type 0 where
@@ -20,7 +21,7 @@ several item (suc n) ts = and_then (item ts) (λ x us. cond x.1 (ok (x.0 ∷ [])
 -- an alternative ends before `/` or `;`
 abbrev pub at_stop : List Tok → Bool
 at_stop [] = false
-at_stop (t ∷ ts) = is_operator op.Over t.1 || is_mark mark.Semicolon t.1
+at_stop (t ∷ ts) = is_operator op.Divide t.1 || is_mark mark.Semicolon t.1
 
 abbrev pub none_left : List Tok → Bool
 none_left [] = true
@@ -36,7 +37,7 @@ terms_at end ts = several (term_item end) (length ts) ts
 -- `/`, or `;` after the last alternative
 abbrev pub branch_end : ℕ → List Tok → Read Bool
 branch_end end [] = form end
-branch_end end (t ∷ ts) = cond (is_operator op.Over t.1) (ok false ts) (cond (is_mark mark.Semicolon t.1) (ok true ts) (form t.0))
+branch_end end (t ∷ ts) = cond (is_operator op.Divide t.1) (ok false ts) (cond (is_mark mark.Semicolon t.1) (ok true ts) (form t.0))
 
 abbrev pub alternative_at : ℕ → List Tok → Read (List TermTree × Bool)
 alternative_at end ts = and_then (terms_at end ts) (λ a us. and_then (branch_end end us) (λ last vs. ok (a, last) vs))

@@ -1,3 +1,4 @@
 pub mod Form
 pub mod Emission
 pub mod Reading
+pub mod Keeping

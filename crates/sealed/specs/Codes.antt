@@ -2,8 +2,8 @@
 use Rattle.std.specs.Prelude.{List, [], ◌∷◌}
 use Rattle.meaning.specs.Syntax.{Expr}
 use Rattle.meaning.specs.Syntax.Expr.{number, eoi, own, of_call, start_of, end_of, binary}
-use Rattle.meaning.specs.declared.op.Op.{Op}
-use Rattle.meaning.specs.declared.op.Op.TheVariants.{Divide}
+use Rattle.operators.specs.declared.Op.{Op}
+use Rattle.operators.specs.declared.Op.TheVariants.{Divide}
 use Rattle.sealed.specs.declared.code.Code.{Code}
 use Rattle.sealed.specs.declared.code.Code.TheVariants.{Number, Eoi, Own, OfCall, StartOf, EndOf, Apply, Bracket}
 

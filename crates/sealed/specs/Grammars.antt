@@ -3,10 +3,10 @@ use Rattle.std.specs.Prelude.{ℕ, ◌+◌, List, [], ◌∷◌, map, length, ve
 use Rattle.meaning.specs.Syntax as syntax
 use Rattle.meaning.specs.Syntax.Term.{literal, call, attribute, guard}
 use Rattle.sealed.specs.Codes.{expr_of}
-use Rattle.sealed.specs.Parts.{part}
+use Rattle.arena.specs.Parts.{part}
 use Rattle.sealed.specs.declared.code.Code.{Code}
 use Rattle.sealed.specs.declared.grammar.Sealed.{Sealed}
-use Rattle.sealed.specs.declared.span.Span.{Span}
+use Rattle.arena.specs.declared.span.Span.{Span}
 use Rattle.sealed.specs.declared.term.Term.{Term}
 use Rattle.sealed.specs.declared.term.Term.TheVariants.{Literal, Call, Attribute, Guard}
 

@@ -1,4 +1,3 @@
-pub mod Parts
 pub mod Limits
 pub mod Codes
 pub mod Grammars

@@ -1,8 +1,8 @@
 ghost use Rattle.std.specs.Prelude.{◌≤◌, vec_len};
 
 use crate::code::Code;
-use crate::span::Span;
 use crate::term::Term;
+use arena::Span;
 
 pub mod calls;
 pub mod make;

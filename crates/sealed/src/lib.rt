@@ -4,11 +4,8 @@
 
 pub mod code;
 pub mod grammar;
-pub mod parts;
-pub mod span;
 pub mod term;
 
 pub use code::Code;
 pub use grammar::Sealed;
-pub use span::{Ends, Span};
 pub use term::Term;

@@ -1,16 +1,12 @@
 -- The names of a table, and the rule's slots as far as a table goes.
-use Rattle.std.specs.Prelude.{ℕ, List, [], ◌∷◌, map, take, Option}
+use Rattle.std.specs.Prelude.{ℕ, List, map, take, Option}
 use Rattle.code.specs.Names.{letters}
 use Rattle.lookup.specs.Lookup.{noted}
 use Rattle.slots.specs.declared.table.Slots.{Slots}
 
 abbrev pub listed : Slots → List (List ℕ)
-listed s = map letters (take s.len s.names)
+listed s = map letters s.names.items
 
 -- a name more, nine at most
 abbrev pub kept : List (List ℕ) → Option (List ℕ) → List (List ℕ)
 kept seen v = take 9 (noted seen v)
-
-abbrev pub kept_all : List (List ℕ) → List (Option (List ℕ)) → List (List ℕ)
-kept_all seen [] = seen
-kept_all seen (v ∷ vs) = kept_all (kept seen v) vs

@@ -2,7 +2,6 @@
 #![tactic(auto)]
 
 mod collect;
-mod span;
 mod table;
 
 pub use collect::slots_of;

@@ -1,11 +1,11 @@
 -- How the tables grow by one term.
-use Rattle.std.proofs.Common.{◌≡◌, ℕ, ◌-◌, ◌<◌, List, [], ◌∷◌, ◌++◌, map, length, take, IfOk, Ok, Err, Result, sym, refl, ap, ◌∙◌, append_assoc, append-nil, arith}
+use Rattle.std.proofs.Common.{◌≡◌, ℕ, ◌-◌, List, [], ◌∷◌, ◌++◌, map, length, take, sym, refl, ap, ◌∙◌, append_assoc, append-nil}
 use Rattle.arena.specs.Bounded.{upto}
 use Rattle.arena.proofs.Bounds.{seen}
 use Rattle.code.specs.Pieces.{Piece}
 use Rattle.expr.specs.Trees.{Tree}
 use Rattle.expr.specs.Reading.{Grew}
-use Rattle.term.specs.declared.arenas.Span.{Span}
+use Rattle.arena.specs.declared.span.Span.{Span}
 use Rattle.term.specs.declared.arenas.Term.{Term}
 use Rattle.term.specs.Form.{TermTree}
 use Rattle.term.specs.Form as tree
@@ -55,8 +55,3 @@ put_entry a b x e put is = ap (map entry) put ∙ seen entry 257 a (x ∷ []) �
 -- tables whose parts are equal
 pub same_tables : {rs : List Head} {ss : List Span} {ts us : List Entry} {bs cs : List ℕ} {ps qs : List Piece} → ts ≡ us → bs ≡ cs → ps ≡ qs → ◌≡◌ {A = Tables} (record { rules = rs; alternatives = ss; terms = ts; bytes = bs; code = ps }) (record { rules = rs; alternatives = ss; terms = us; bytes = cs; code = qs })
 same_tables p q r = cc
-
--- what is shorter than a shorter list
-pub sooner : {E : Type 0} (r : Result ℕ E) (f : ℕ → ℕ) (a b : ℕ) → IfOk r (λ to. f to < a) → a < b → IfOk r (λ to. f to < b)
-sooner (Ok to) f a b h k = omega arith
-sooner (Err e) f a b h k = tt

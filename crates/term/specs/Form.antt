@@ -1,12 +1,11 @@
 -- The form of terms: how one is read from the front of a list of tokens; `end` is the text's length, told where tokens are wanting.
 use Rattle.std.specs.Prelude.{ℕ, cond, List, [], ◌∷◌}
-use Rattle.token.specs.declared.Mark.{Mark}
 use Rattle.token.specs.declared.Mark.TheVariants as mark
-use Rattle.token.specs.declared.Op.TheVariants as op
-use Rattle.token.specs.Tokens.{Lexeme, Tok, same_mark, is_mark, is_operator}
+use Rattle.operators.specs.declared.Op.TheVariants as op
+use Rattle.token.specs.Tokens.{Lexeme, Tok, same_mark, is_operator}
 use Rattle.token.specs.Tokens as lexeme
 use Rattle.expr.specs.Trees.{Tree}
-use Rattle.expr.specs.Reading.{Read, ok, form, and_then, expression_at}
+use Rattle.expr.specs.Reading.{Read, ok, form, and_then, mark_at, name_at, expression_at}
 
 -- a literal's bytes, a called name, an attribute's name with its place; expressions as trees
 pub data TermTree : Type 0 where
@@ -15,29 +14,10 @@ pub data TermTree : Type 0 where
   attribute : ℕ → List ℕ → Tree → TermTree
   guard : Tree → TermTree
 
--- a mark, and what follows it
-abbrev pub mark_at : Mark → ℕ → List Tok → Read (Unit {0})
-mark_at m end [] = form end
-mark_at m end (t ∷ ts) = cond (is_mark m t.1) (ok tt ts) (form t.0)
-
 -- `=`, and what follows it
 abbrev pub equals_at : ℕ → List Tok → Read (Unit {0})
 equals_at end [] = form end
 equals_at end (t ∷ ts) = cond (is_operator op.Equal t.1) (ok tt ts) (form t.0)
-
-abbrev pub name_of : Lexeme → ℕ → List Tok → Read (ℕ × List ℕ)
-name_of (lexeme.name w) p ts = ok (p, w) ts
-name_of (lexeme.text w) p ts = form p
-name_of (lexeme.number n) p ts = form p
-name_of (lexeme.operator o) p ts = form p
-name_of (lexeme.mark m) p ts = form p
-name_of lexeme.eoi p ts = form p
-name_of lexeme.guard p ts = form p
-
--- a name with its place, and what follows it
-abbrev pub name_at : ℕ → List Tok → Read (ℕ × List ℕ)
-name_at end [] = form end
-name_at end (t ∷ ts) = name_of t.1 t.0 ts
 
 -- an expression, with no bracket open
 abbrev pub expr_at : ℕ → List Tok → Read Tree
@@ -68,11 +48,9 @@ guard_at end ts = and_then (mark_at mark.Open end ts) (λ _ ts. and_then (expr_a
 abbrev pub term_of : Lexeme → ℕ → ℕ → List Tok → Read TermTree
 term_of (lexeme.name w) end p ts = call_at w end ts
 term_of (lexeme.text w) end p ts = literal_at w end ts
-term_of (lexeme.number n) end p ts = form p
-term_of (lexeme.operator o) end p ts = form p
 term_of (lexeme.mark m) end p ts = cond (same_mark m mark.OpenCurly) (attribute_at end ts) (form p)
-term_of lexeme.eoi end p ts = form p
 term_of lexeme.guard end p ts = guard_at end ts
+term_of _ end p ts = form p
 
 abbrev pub term_at : ℕ → List Tok → Read TermTree
 term_at end [] = form end

@@ -5,9 +5,9 @@ use Rattle.code.specs.Names.{letters}
 use Rattle.code.specs.Pieces.{Piece, codes}
 use Rattle.expr.specs.Trees.{Tree, encode}
 use Rattle.term.specs.declared.arenas.Arenas.{Arenas}
-use Rattle.term.specs.declared.arenas.Ends.{Ends}
+use Rattle.arena.specs.declared.span.Ends.{Ends}
 use Rattle.term.specs.declared.arenas.Rule.{Rule}
-use Rattle.term.specs.declared.arenas.Span.{Span}
+use Rattle.arena.specs.declared.span.Span.{Span}
 use Rattle.term.specs.declared.arenas.Term.{Term}
 use Rattle.term.specs.declared.arenas.Term.TheVariants as term
 use Rattle.term.specs.Form.{TermTree}
@@ -44,6 +44,10 @@ pub record Tables : Type 0 where
 
 abbrev pub tables : Arenas → Tables
 tables a = record { rules = map head (stored a.rules); alternatives = stored a.alternatives; terms = map entry (stored a.terms); bytes = stored a.bytes; code = codes a.code }
+
+-- the tables of a draft without rules
+abbrev pub blank : Tables
+blank = record { rules = []; alternatives = []; terms = []; bytes = []; code = [] }
 
 -- ---- what is appended, as far as there is room
 -- the part that was appended

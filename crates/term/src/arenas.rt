@@ -1,22 +1,12 @@
-use arena::Arena;
+ghost use Rattle.std.specs.Prelude.{◌≡◌, IfOk};
+ghost use Rattle.term.specs.Tables.{tables, blank};
+
+use arena::{Arena, Ends, Span};
 use code::{Code, Name};
+use std::alloc::{AllocError, Global};
 
-// A part of an arena, from one place up to another.
-#[derive(Clone, Copy)]
-pub struct Span {
-    pub from: usize,
-    pub to: usize,
-}
-
-// The code of a window's two ends.
-#[derive(Clone, Copy)]
-pub struct Ends {
-    pub left: Span,
-    pub right: Span,
-}
-
-// A term, whose expressions are parts of the code, and a literal's bytes a part of the bytes.
-#[derive(Clone, Copy)]
+/// A term, whose expressions are parts of the code, and a literal's bytes a part of the bytes.
+#[derive(Clone, PartialEq, Eq, Debug, Drop)]
 pub enum Term {
     Literal(Span, Ends),
     Call(Name, Ends),
@@ -25,15 +15,15 @@ pub enum Term {
     Guard(Span),
 }
 
-// A rule: its name, the name's place in the text, and its part of the alternatives.
-#[derive(Clone, Copy)]
+/// A rule: its name, the name's place in the text, and its part of the alternatives.
+#[derive(Clone, PartialEq, Eq, Debug, Drop)]
 pub struct Rule {
     pub name: Name,
     pub place: usize,
     pub alternatives: Span,
 }
 
-// The memory of a draft. An alternative is a part of the terms. Each arena has room for one more than its limit, so that a full one tells that the limit was passed.
+/// The memory of a draft. An alternative is a part of the terms. Each arena has room for one more than its limit, so that a full one tells that the limit was passed.
 #[derive(Drop)]
 pub struct Arenas {
     pub rules: Arena<Rule, 33>,
@@ -41,4 +31,19 @@ pub struct Arenas {
     pub terms: Arena<Term, 257>,
     pub bytes: Arena<u8, 513>,
     pub code: Arena<Code, 1025>,
+}
+
+impl Arenas {
+    /// Empty arenas, with the room for all that they will hold.
+    pub fn new(heap: Global) -> Result<Arenas, AllocError>
+        ensures { IfOk result (λ arenas. tables arenas ≡ blank) }
+    {
+        Ok(Arenas {
+            rules: Arena::new(heap)?,
+            alternatives: Arena::new(heap)?,
+            terms: Arena::new(heap)?,
+            bytes: Arena::new(heap)?,
+            code: Arena::new(heap)?,
+        })
+    }
 }

@@ -1,41 +1,33 @@
 // Texts at the boundaries of tokens, form and limits, and what becomes of them.
 #![tactic(auto)]
 
-use draft::{Draft, Refused};
-
-// The number and the place of an answer; 0 and 0 for a text that was taken.
-fn numbers(answer: Result<(), Refused>) -> (u64, usize) {
-    match answer {
-        Ok(()) => (0, 0),
-        Err(Refused::TooLong) => (1, 0),
-        Err(Refused::Token(place)) => (2, place),
-        Err(Refused::Form(place)) => (3, place),
-        Err(Refused::Deep(place)) => (4, place),
-        Err(Refused::Limit) => (5, 0),
-    }
-}
-
 #[cfg(test)]
 mod tests {
-    use super::*;
+    use answers::Numbered;
+    use draft::{Draft, Refused};
     use std::alloc::Global;
     use std::process::Abort;
     use std::test::Fail;
+
+    // The place that an answer tells; 0 for a text that was taken.
+    fn place_told(answer: Result<(), Refused>) -> usize {
+        answer.err().map_or(0, |refused| refused.place())
+    }
 
     // A text is read into a draft made anew.
     fn answers(
         rt: &impl Abort,
         heap: Global,
         text: &[u8],
-        number: u64,
+        number: u8,
         place: usize,
     ) -> Result<(), Fail> {
         let Ok(mut draft) = Draft::new(heap) else {
             return Err(Fail::new("no memory"));
         };
-        let (n, p) = numbers(draft.append(text));
-        assert_eq!(rt; n, number);
-        assert_eq!(rt; p, place);
+        let answer = draft.append(text);
+        assert_eq!(rt; answer.number(), number);
+        assert_eq!(rt; place_told(answer), place);
         Ok(())
     }
 
@@ -144,16 +136,16 @@ mod tests {
             return Err(Fail::new("no memory"));
         };
         for _ in 0..31 {
-            let (n, _) = numbers(draft.append(b"A: guard(1) ;"));
-            assert_eq!(rt; n, 0);
+            let answer = draft.append(b"A: guard(1) ;");
+            assert_eq!(rt; answer.number(), 0);
         }
-        let (n, p) = numbers(draft.append(b"A: guard(1) ; B: guard(1) ;"));
-        assert_eq!(rt; n, 5);
-        assert_eq!(rt; p, 0);
-        let (n, _) = numbers(draft.append(b"A: guard(1) ;"));
-        assert_eq!(rt; n, 0);
-        let (n, _) = numbers(draft.append(b"A: guard(1) ;"));
-        assert_eq!(rt; n, 5);
+        let answer = draft.append(b"A: guard(1) ; B: guard(1) ;");
+        assert_eq!(rt; answer.number(), 5);
+        assert_eq!(rt; place_told(answer), 0);
+        let answer = draft.append(b"A: guard(1) ;");
+        assert_eq!(rt; answer.number(), 0);
+        let answer = draft.append(b"A: guard(1) ;");
+        assert_eq!(rt; answer.number(), 5);
         Ok(())
     }
 }

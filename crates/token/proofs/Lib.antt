@@ -1,4 +1,6 @@
 pub mod Laws
-pub mod Turns
+pub mod Classes
+pub mod Runs
+pub mod Places
 pub mod Sofar
 pub mod Stand

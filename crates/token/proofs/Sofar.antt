@@ -1,34 +1,26 @@
 -- Where the token reader stands.
-use Rattle.std.proofs.Common.{◌≡◌, ℕ, ◌<◌, ◌≤◌, List, [], ◌∷◌, length, drop, refl, ap, arith, drop_of_length-le}
-use Rattle.token.specs.declared.Found.{Found}
+use Rattle.std.proofs.Common.{◌≡◌, ℕ, min, List, Some, None, Option, IfSome, Ok, Err, Result, IfOk, length, drop, refl, sym, ap, ◌∙◌, inl, inr, arith, drop_of_length-le}
+use Rattle.std.specs.Result.{result_unwrap_or}
+use Rattle.std.proofs.lemmas.Bool.{cases_lt}
 use Rattle.token.specs.declared.Placed.{Placed}
-use Rattle.token.specs.declared.State.{State}
-use Rattle.token.specs.declared.State.TheVariants as state
-use Rattle.token.specs.Tokens.{Standing, busy, lexed, cons, toks, tokens_at, found, shown, first_bad, bad_token}
+use Rattle.token.specs.declared.scan.NoToken.{NoToken}
+use Rattle.token.specs.Tokens.{lexed, toks, tokens_at, found, first_bad, bad_token, lexeme, Spans, NextIs}
 
-pub busy_few : (s : State) → busy s ≤ 1
-busy_few state.Between = omega arith
-busy_few (state.InName f) = omega arith
-busy_few (state.InNumber f v) = omega arith
-busy_few (state.InText f) = omega arith
-
-pub stands_within : (bs : List ℕ) (s : State) (at : ℕ) → Standing bs s at → at ≤ length bs
-stands_within bs state.Between at h = h
-stands_within bs (state.InName f) at h = h.1
-stands_within bs (state.InNumber f v) at h = h.1
-stands_within bs (state.InText f) at h = h.1
-
-pub past_end : (bs : List ℕ) (at : ℕ) → length bs < at → tokens_at bs at ≡ []
+-- no token stands after the end
+pub within : (bs : List ℕ) (at m : ℕ) → m ≡ min at (length bs) → tokens_at bs m ≡ tokens_at bs at
 unfolding tokens_at lexed
-past_end bs at h = ap (λ l. toks (lexed at l)) (drop_of_length-le bs (omega arith))
+within bs at m h = elim (cases_lt at (length bs)) [
+  | inl less ↦ ap (tokens_at bs) (omega arith)
+  | inr more ↦
+      let last : m ≡ length bs = omega arith in
+      ap (tokens_at bs) last ∙ ap (λ l. toks (lexed (length bs) l)) (drop_of_length-le bs (omega arith)) ∙ sym (ap (λ l. toks (lexed at l)) (drop_of_length-le bs (omega arith)))
+]
 
-pub toks_found : (bs : List ℕ) (at : ℕ) (f : Found) → lexed at (drop at bs) ≡ found bs f → tokens_at bs at ≡ toks (found bs f)
+pub next_is : (bs : List ℕ) (at : ℕ) (r : Result (Option (Placed × ℕ)) NoToken) → lexed at (drop at bs) ≡ found bs r → IfOk r (λ found. IfSome found (λ x. Spans bs at (lexeme x.0.token) x.1)) → NextIs bs at (result_unwrap_or r None)
 unfolding tokens_at
-toks_found bs at f h = ap toks h
-
-pub toks_token : (bs : List ℕ) (at : ℕ) (p : Placed) (to : ℕ) → lexed at (drop at bs) ≡ cons (shown p) (lexed to (drop to bs)) → tokens_at bs at ≡ shown p ∷ tokens_at bs to
-unfolding tokens_at
-toks_token bs at p to h = ap toks h
+next_is bs at (Ok (Some x)) reads moves = (ap toks reads, moves.2, moves.1)
+next_is bs at (Ok None) reads moves = ap toks reads
+next_is bs at (Err e) reads moves = ap toks reads
 
 pub bad_starts : (bs : List ℕ) → bad_token bs ≡ first_bad (lexed 0 (drop 0 bs))
 unfolding bad_token

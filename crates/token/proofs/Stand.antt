@@ -1,27 +1,19 @@
 -- The tokens stand where the definition puts them.
-use Rattle.std.proofs.Common.{◌≡◌, ℕ, zero, suc, ◌+◌, ◌-◌, ◌^◌, ◌<◌, ◌≤◌, Bool, true, false, cond, not, ◌&&◌, eqb, ltb, leb, List, [], ◌∷◌, ◌++◌, length, take, drop, sym, refl, ap, ◌∙◌, subst, append_assoc, arith, length-append, length-drop, take-append-drop, length-take}
+use Rattle.std.proofs.Common.{◌≡◌, ℕ, zero, suc, ◌+◌, ◌^◌, ◌<◌, ◌≤◌, Bool, true, false, cond, not, ◌&&◌, ltb, leb, List, [], ◌∷◌, ◌++◌, length, take, drop, sym, refl, ap, ◌∙◌, subst, append_assoc, arith, length-append, length-drop, take-append-drop, length-take}
 use Rattle.std.proofs.lemmas.Bool.Decides.{nat_tests}
 use Rattle.strings.specs.Decoding.{bytes_of}
 use Rattle.token.specs.declared.Class.{Class}
 use Rattle.token.specs.declared.Class.TheVariants as class
-use Rattle.token.specs.declared.Op.{Op}
-use Rattle.token.specs.declared.Op.TheVariants as op
-use Rattle.token.specs.Classes.{separator, letter, digit, mark_class, byte_class, class_of}
+use Rattle.operators.specs.declared.Op.{Op}
+use Rattle.token.specs.Classes.{separator, byte_class, class_of}
 use Rattle.token.specs.Tokens.{Lexeme, Lexed, done, refused, cons, text, number, operator, mark, front, back, name_byte, number_byte, text_byte, word_of, value, allowed_body, width_of, text_end, start, lexed}
 use Rattle.token.proofs.Laws.{unfolds, width_some}
-use Rattle.token.proofs.Turns.{begun, not_end, wide_enough}
+use Rattle.token.proofs.Runs.{front_back, back_stops}
+use Rattle.token.proofs.Classes.{begun, one_byte, spaces, not_end, wide_enough}
 use Rattle.token.specs.Laid.{all, stops, Stands, a_word, a_number, a_string, a_mark, an_operator, Laid}
 
 -- ---- runs
 module _ (p : ℕ → Bool) where
-  pub front_back : (bs : List ℕ) → front p bs ++ back p bs ≡ bs
-  front_back [] = refl
-  front_back (b ∷ bs) = go (p b) (front_back bs)
-    where
-      go : (x : Bool) → front p bs ++ back p bs ≡ bs → cond x (b ∷ front p bs) [] ++ cond x (back p bs) (b ∷ bs) ≡ b ∷ bs
-      go true r = ap (λ l. b ∷ l) r
-      go false r = refl
-
   pub front_all : (bs : List ℕ) → all p (front p bs) ≡ true
   front_all [] = refl
   front_all (b ∷ bs) = go (p b) refl (front_all bs)
@@ -30,69 +22,8 @@ module _ (p : ℕ → Bool) where
       go true h r = ap (λ x. x && all p (front p bs)) h ∙ r
       go false h r = refl
 
-  pub back_stops : (bs : List ℕ) → stops p (back p bs) ≡ true
-  back_stops [] = refl
-  back_stops (b ∷ bs) = go (p b) refl (back_stops bs)
-    where
-      go : (x : Bool) → p b ≡ x → stops p (back p bs) ≡ true → stops p (cond x (back p bs) (b ∷ bs)) ≡ true
-      go true h r = r
-      go false h r = ap not h
-
   pub back_few : (bs : List ℕ) → length (front p bs) + length (back p bs) ≡ length bs
-  back_few bs = sym (length-append (front p bs) (back p bs)) ∙ ap length (front_back bs)
-
--- ---- classes
-abbrev operates : Class → Bool
-operates class.End = false
-operates class.Space = false
-operates class.Letter = false
-operates (class.Digit d) = false
-operates class.Low = false
-operates class.Quote = false
-operates (class.Mark m) = false
-operates (class.Operator o) = true
-operates class.Other = false
-
--- << apart, the first byte tells the class
-one_byte : (b : ℕ) (bs : List ℕ) (c : Class) → class_of (b ∷ bs) ≡ c → operates c ≡ false → byte_class b ≡ c
-one_byte b [] c e plain = e
-one_byte b (d ∷ bs) c e plain = go (eqb b 0x3C && eqb d 0x3C) e
-  where
-    go : (x : Bool) → cond x (class.Operator op.Shift) (byte_class b) ≡ c → byte_class b ≡ c
-    go true h = absurd (grind (arith, ap operates h ∙ plain))
-    go false h = h
-
-abbrev is_space : Class → Bool
-is_space class.End = false
-is_space class.Space = true
-is_space class.Letter = false
-is_space (class.Digit d) = false
-is_space class.Low = false
-is_space class.Quote = false
-is_space (class.Mark m) = false
-is_space (class.Operator o) = false
-is_space class.Other = false
-
-keeps : (x : Bool) (a b : Class) → is_space a ≡ false → is_space b ≡ false → is_space (cond x a b) ≡ false
-keeps true a b p q = p
-keeps false a b p q = q
-
-no_mark : (b : ℕ) → is_space (mark_class b) ≡ false
-no_mark b = keeps (eqb b 0x3A) _ _ refl (keeps (eqb b 0x5B) _ _ refl (keeps (eqb b 0x5D) _ _ refl (keeps (eqb b 0x28) _ _ refl (keeps (eqb b 0x29) _ _ refl (keeps (eqb b 0x7B) _ _ refl (keeps (eqb b 0x7D) _ _ refl (keeps (eqb b 0x2C) _ _ refl (keeps (eqb b 0x3B) _ _ refl (keeps (eqb b 0x2E) _ _ refl (keeps (eqb b 0x3D) _ _ refl (keeps (eqb b 0x3C) _ _ refl (keeps (eqb b 0x2B) _ _ refl (keeps (eqb b 0x2D) _ _ refl (keeps (eqb b 0x2A) _ _ refl (keeps (eqb b 0x2F) _ _ refl (keeps (eqb b 0x25) _ _ refl (refl)))))))))))))))))
-
--- no byte but a separator has the class of separators
-no_space : (b : ℕ) → separator b ≡ false → byte_class b ≡ class.Space → ⊥
-no_space b h e =
-    let rest : is_space (byte_class b) ≡ false = ap (λ x. is_space (cond x class.Space (cond (letter b) class.Letter (cond (digit b) (class.Digit (b - 0x30)) (cond (eqb b 0x5F) class.Low (cond (eqb b 0x22) class.Quote (mark_class b))))))) h ∙ keeps (letter b) _ _ refl (keeps (digit b) _ _ refl (keeps (eqb b 0x5F) _ _ refl (keeps (eqb b 0x22) _ _ refl (no_mark b)))) in
-    grind (arith, sym rest ∙ ap is_space e)
-
--- only separators have the class of separators
-spaces : (b : ℕ) → byte_class b ≡ class.Space → separator b ≡ true
-spaces b e = go (separator b) refl
-  where
-    go : (x : Bool) → separator b ≡ x → separator b ≡ true
-    go true h = h
-    go false h = absurd (no_space b h e)
+  back_few bs = sym (length-append (front p bs) (back p bs)) ∙ ap length (front_back p bs)
 
 -- ---- one more separator before
 gap_more : (at b : ℕ) (bs : List ℕ) (l : Lexed) → separator b ≡ true → Laid (at + 1) bs l → Laid at (b ∷ bs) l

@@ -3,7 +3,7 @@ use Rattle.std.specs.Prelude.{ℕ, ◌-◌, Bool, cond, ◌&&◌, ◌||◌, List
 use Rattle.token.specs.declared.Class.{Class}
 use Rattle.token.specs.declared.Class.TheVariants as class
 use Rattle.token.specs.declared.Mark.TheVariants as mark
-use Rattle.token.specs.declared.Op.TheVariants as op
+use Rattle.operators.specs.declared.Op.TheVariants as op
 
 abbrev pub between : ℕ → ℕ → ℕ → Bool
 between low high b = nat_le low b && nat_le b high
@@ -30,12 +30,12 @@ mark_class b =
     (cond (b == 0x3B) (class.Mark mark.Semicolon)
     (cond (b == 0x2E) (class.Mark mark.Dot)
     (cond (b == 0x3D) (class.Operator op.Equal)
-    (cond (b == 0x3C) (class.Operator op.Below)
+    (cond (b == 0x3C) (class.Operator op.Less)
     (cond (b == 0x2B) (class.Operator op.Plus)
     (cond (b == 0x2D) (class.Operator op.Minus)
     (cond (b == 0x2A) (class.Operator op.Times)
-    (cond (b == 0x2F) (class.Operator op.Over)
-    (cond (b == 0x25) (class.Operator op.Rest)
+    (cond (b == 0x2F) (class.Operator op.Divide)
+    (cond (b == 0x25) (class.Operator op.Remainder)
     class.Other))))))))))))))))
 
 abbrev pub byte_class : ℕ → Class

@@ -3,7 +3,7 @@ use Rattle.std.specs.Prelude.{◌≡◌, ℕ, ◌+◌, ◌^◌, ◌<◌, ◌≤�
 use Rattle.strings.specs.Decoding.{bytes_of}
 use Rattle.token.specs.declared.Class.TheVariants as class
 use Rattle.token.specs.declared.Mark.{Mark}
-use Rattle.token.specs.declared.Op.{Op}
+use Rattle.operators.specs.declared.Op.{Op}
 use Rattle.token.specs.Classes.{separator, byte_class, class_of}
 use Rattle.token.specs.Tokens.{Lexeme, Lexed, done, refused, cons, text, number, operator, mark, name_byte, number_byte, text_byte, word_of, value, allowed_body, width_of, lexed}
 

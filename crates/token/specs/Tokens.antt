@@ -1,5 +1,5 @@
 -- The tokens of a text: at each place the longest one.
-use Rattle.std.specs.Prelude.{◌≡◌, ℕ, zero, suc, ◌+◌, ◌-◌, ◌*◌, ◌^◌, ◌<◌, ◌≤◌, Bool, true, false, cond, ◌&&◌, List, [], ◌∷◌, ◌++◌, length, take, drop, Some, None, codes, Option, ◌==◌, nat_le, nat_lt}
+use Rattle.std.specs.Prelude.{◌≡◌, ℕ, zero, suc, ◌+◌, ◌*◌, ◌^◌, ◌<◌, ◌≤◌, Bool, true, false, cond, ◌&&◌, List, [], ◌∷◌, ◌++◌, length, take, drop, Some, None, Ok, Err, Result, codes, Option, ◌==◌, nat_le, nat_lt}
 use Rattle.std.specs.Str.{bytes_eq}
 use Rattle.strings.specs.Decoding.{decode, decoded_length, bytes_of}
 use Rattle.token.specs.Classes.{byte_class, class_of}
@@ -7,15 +7,10 @@ use Rattle.token.specs.declared.Class.{Class}
 use Rattle.token.specs.declared.Class.TheVariants as class
 use Rattle.token.specs.declared.Mark.{Mark}
 use Rattle.token.specs.declared.Mark.TheVariants as mark_of
-use Rattle.token.specs.declared.Op.{Op}
-use Rattle.token.specs.declared.Op.TheVariants as op
+use Rattle.operators.specs.declared.Op.{Op}
+use Rattle.operators.specs.declared.Op.TheVariants as op
 use Rattle.token.specs.declared.Placed.{Placed}
-use Rattle.token.specs.declared.State.{State}
-use Rattle.token.specs.declared.State.TheVariants as state
-use Rattle.token.specs.declared.Found.{Found}
-use Rattle.token.specs.declared.Found.TheVariants as found_of
-use Rattle.token.specs.declared.Turn.{Turn}
-use Rattle.token.specs.declared.Turn.TheVariants as turn
+use Rattle.token.specs.declared.scan.NoToken.{NoToken}
 use Rattle.token.specs.declared.Token.{Token}
 use Rattle.token.specs.declared.Token.TheVariants as token
 
@@ -54,42 +49,28 @@ abbrev pub same_mark : Mark → Mark → Bool
 same_mark m k = mark_code m == mark_code k
 
 abbrev pub is_mark : Mark → Lexeme → Bool
-is_mark m (name w) = false
-is_mark m (text w) = false
-is_mark m (number n) = false
-is_mark m (operator o) = false
 is_mark m (mark k) = same_mark k m
-is_mark m eoi = false
-is_mark m guard = false
+is_mark m _ = false
 
 abbrev pub op_code : Op → ℕ
 op_code op.Equal = 0
-op_code op.Below = 1
+op_code op.Less = 1
 op_code op.Plus = 2
 op_code op.Minus = 3
 op_code op.Times = 4
-op_code op.Over = 5
-op_code op.Rest = 6
+op_code op.Divide = 5
+op_code op.Remainder = 6
 op_code op.Shift = 7
 
 abbrev pub is_operator : Op → Lexeme → Bool
-is_operator o (name w) = false
-is_operator o (text w) = false
-is_operator o (number n) = false
 is_operator o (operator p) = op_code p == op_code o
-is_operator o (mark m) = false
-is_operator o eoi = false
-is_operator o guard = false
+is_operator o _ = false
 
 -- a name has at most 24 bytes, and a string gives 1 to 16
 abbrev pub Sized : Lexeme → Type 0
 Sized (name w) = length w ≤ 24
 Sized (text w) = (1 ≤ length w) × (length w ≤ 16)
-Sized (number n) = Unit {0}
-Sized (operator o) = Unit {0}
-Sized (mark m) = Unit {0}
-Sized eoi = Unit {0}
-Sized guard = Unit {0}
+Sized _ = Unit {0}
 
 abbrev pub shown : Placed → ℕ × Lexeme
 shown p = (p.place, lexeme p.token)
@@ -124,37 +105,19 @@ back p [] = []
 back p (b ∷ bs) = cond (p b) (back p bs) (b ∷ bs)
 
 abbrev pub in_name : Class → Bool
-in_name class.End = false
-in_name class.Space = false
 in_name class.Letter = true
 in_name (class.Digit d) = true
 in_name class.Low = true
-in_name class.Quote = false
-in_name (class.Mark m) = false
-in_name (class.Operator o) = false
-in_name class.Other = false
+in_name _ = false
 
 abbrev pub in_number : Class → Bool
-in_number class.End = false
-in_number class.Space = false
-in_number class.Letter = false
 in_number (class.Digit d) = true
-in_number class.Low = false
-in_number class.Quote = false
-in_number (class.Mark m) = false
-in_number (class.Operator o) = false
-in_number class.Other = false
+in_number _ = false
 
 abbrev pub in_text : Class → Bool
 in_text class.End = false
-in_text class.Space = true
-in_text class.Letter = true
-in_text (class.Digit d) = true
-in_text class.Low = true
 in_text class.Quote = false
-in_text (class.Mark m) = true
-in_text (class.Operator o) = true
-in_text class.Other = true
+in_text _ = true
 
 abbrev pub name_byte : ℕ → Bool
 name_byte b = in_name (byte_class b)
@@ -170,15 +133,8 @@ abbrev pub word_of : List ℕ → Lexeme
 word_of w = cond (bytes_eq w (codes "EOI")) eoi (cond (bytes_eq w (codes "guard")) guard (name w))
 
 abbrev pub digit_in : Class → ℕ
-digit_in class.End = 0
-digit_in class.Space = 0
-digit_in class.Letter = 0
 digit_in (class.Digit d) = d
-digit_in class.Low = 0
-digit_in class.Quote = 0
-digit_in (class.Mark m) = 0
-digit_in (class.Operator o) = 0
-digit_in class.Other = 0
+digit_in _ = 0
 
 -- decimal digits after the value v
 abbrev pub value : ℕ → List ℕ → ℕ
@@ -193,14 +149,8 @@ abbrev pub allowed_body : List ℕ → Bool
 allowed_body w = few_bytes (decoded_length (decode w))
 
 abbrev pub width_of : Op → ℕ
-width_of op.Equal = 1
-width_of op.Below = 1
-width_of op.Plus = 1
-width_of op.Minus = 1
-width_of op.Times = 1
-width_of op.Over = 1
-width_of op.Rest = 1
 width_of op.Shift = 2
+width_of _ = 1
 
 -- ---- the end of a token that began at `from` and has the bytes w, or the value v; bs stands at the place `at`, and `next` reads on from there
 abbrev pub Rest : Type 0
@@ -251,57 +201,34 @@ lex (suc f) at bs = start (lex f) at (class_of bs) bs
 unfoldable pub lexed : Rest
 lexed at bs = lex (length bs) at bs
 
--- ---- the reader's states
-abbrev pub part : ℕ → ℕ → List ℕ → List ℕ
-part a b bs = take (b - a) (drop a bs)
-
-abbrev pub resumed : List ℕ → State → ℕ → Lexed
-resumed bs state.Between at = lexed at (drop at bs)
-resumed bs (state.InName from) at = name_from lexed from (part from at bs) at (drop at bs)
-resumed bs (state.InNumber from v) at = number_from lexed from v at (drop at bs)
-resumed bs (state.InText from) at = text_from lexed from (part (from + 1) at bs) at (drop at bs)
-
-abbrev pub Standing : List ℕ → State → ℕ → Type 0
-Standing bs state.Between at = at ≤ length bs
-Standing bs (state.InName from) at = (from < at) × (at ≤ length bs) × (at - from ≤ 24)
-Standing bs (state.InNumber from v) at = (from < at) × (at ≤ length bs)
-Standing bs (state.InText from) at = (from < at) × (at ≤ length bs)
-
-abbrev pub busy : State → ℕ
-busy state.Between = 0
-busy (state.InName from) = 1
-busy (state.InNumber from v) = 1
-busy (state.InText from) = 1
-
-abbrev pub after : List ℕ → ℕ → Turn → Lexed
-after bs at (turn.Go s) = resumed bs s (at + 1)
-after bs at (turn.Made p to) = cons (shown p) (lexed to (drop to bs))
-after bs at (turn.Refuse p) = refused p
-after bs at turn.End = done
-
-abbrev pub Moves : List ℕ → State → ℕ → Turn → Type 0
-Moves bs s at (turn.Go t) = Standing bs t (at + 1)
-Moves bs s at (turn.Made p to) = (at < to + busy s) × (to ≤ length bs) × Sized (lexeme p.token)
-Moves bs s at (turn.Refuse p) = Unit {0}
-Moves bs s at turn.End = Unit {0}
-
 -- ---- one token at a time
-abbrev pub found : List ℕ → Found → Lexed
-found bs (found_of.Token p to) = cons (shown p) (lexed to (drop to bs))
-found bs (found_of.Refused p) = refused p
-found bs found_of.End = done
+-- the token that was read at a place and what follows it, or what is no token
+abbrev pub written : List ℕ → ℕ → Result (Token × ℕ) NoToken → Lexed
+written bs at (Ok x) = cons (at, lexeme x.0) (lexed x.1 (drop x.1 bs))
+written bs at (Err e) = refused e.place
 
-abbrev pub Onward : List ℕ → ℕ → Found → Type 0
-Onward bs from (found_of.Token p to) = (from < to) × (to ≤ length bs) × Sized (lexeme p.token)
-Onward bs from (found_of.Refused p) = Unit {0}
-Onward bs from found_of.End = Unit {0}
+-- a token is read from a place up to another one, further on and not past the end
+abbrev pub Spans : List ℕ → ℕ → Lexeme → ℕ → Type 0
+Spans bs from t to = (from < to) × (to ≤ length bs) × Sized t
+
+-- such a token, or the end of the text
+abbrev pub found_at : List ℕ → ℕ → Result (Option (Token × ℕ)) NoToken → Lexed
+found_at bs at (Ok (Some x)) = cons (at, lexeme x.0) (lexed x.1 (drop x.1 bs))
+found_at bs at (Ok None) = done
+found_at bs at (Err e) = refused e.place
+
+-- so with separators before it
+abbrev pub found : List ℕ → Result (Option (Placed × ℕ)) NoToken → Lexed
+found bs (Ok (Some x)) = cons (shown x.0) (lexed x.1 (drop x.1 bs))
+found bs (Ok None) = done
+found bs (Err e) = refused e.place
 
 -- the tokens from a place on, up to the first place that has none
 unfoldable pub tokens_at : List ℕ → ℕ → List Tok
 tokens_at bs at = toks (lexed at (drop at bs))
 
 abbrev pub NextIs : List ℕ → ℕ → Option (Placed × ℕ) → Type 0
-NextIs bs at (Some x) = (tokens_at bs at ≡ shown x.0 ∷ tokens_at bs x.1) × Sized (lexeme x.0.token)
+NextIs bs at (Some x) = (tokens_at bs at ≡ shown x.0 ∷ tokens_at bs x.1) × Sized (lexeme x.0.token) × (x.1 ≤ length bs)
 NextIs bs at None = tokens_at bs at ≡ []
 
 -- the first place that has no token

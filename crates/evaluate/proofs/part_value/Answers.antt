@@ -1,5 +1,6 @@
 use Rattle.std.proofs.Common.{Some, sym, ap}
-use Rattle.meaning.specs.Values.{value, if_some, applied}
+use Rattle.meaning.specs.Values.{value, if_some}
+use Rattle.operators.specs.Applied.{applied}
 use Rattle.evaluate.proofs.part_value.Goals as goal
 
 pub returns-in-Number : goal.returns-in-Number

@@ -1,32 +1,6 @@
-use Rattle.std.proofs.Common.{length, Ok, subst, arith}
-use Rattle.std.proofs.lemmas.Result.{err_from_is_err_and}
-use Rattle.token.specs.Tokens.{tokens_at}
-use Rattle.term.specs.Tables.{tables}
-use Rattle.rule.specs.Emission.{emit_rule}
-use Rattle.rule.proofs.Adding.{rule_kept}
-use Rattle.rule.specs.Form.{rule_at, rules_at}
-use Rattle.rule.specs.Reading.{AddsItem}
-use Rattle.rule.proofs.Several.{begins, ends, refused, goes_on}
+use Rattle.rule.specs.Form.{rules_at}
 use Rattle.rule.proofs.add_rules.Goals as goal
 
-pub loop-last-init : goal.loop-last-init
-loop-last-init c = (omega arith, begins (rule_at (length c.args.text.now)) emit_rule (tokens_at c.args.text.now c.args.at) (tables c.args.out.now))
-
-pub returns-in_err-last : goal.returns-in_err-last
+pub returns-clause-told : goal.returns-clause-told
 unfolding rules_at
-returns-in_err-last c =
-    let p = err_from_is_err_and c.from_residual.result c.from_residual.ensures.1 in
-    rw (p.1, p.2) record { told = refused (rule_at (length c.args.text.now)) emit_rule (tokens_at c.args.text.now c.args.at) (tables c.args.out.now) c.args.text.now c.loop-last.rest (tables c.loop-last.out) c.loop-last.invariant.1 rule_kept _ (tables c.rule_item.new.out) c.in_err-last.ensures.told; shorter = tt }
-
-pub returns-then-last : goal.returns-then-last
-unfolding rules_at
-returns-then-last c =
-    let read = c.in_ok-last.ensures in
-    let told = subst (λ b. AddsItem c.args.text.now (Ok (b, c.in_ok-last.to)) (rule_at (length c.args.text.now) (tokens_at c.args.text.now c.loop-last.rest)) emit_rule (tables c.loop-last.out) (tables c.rule_item.new.out)) c.if-last.true read.told in
-    record { told = ends (rule_at (length c.args.text.now)) emit_rule (tokens_at c.args.text.now c.args.at) (tables c.args.out.now) c.args.text.now c.loop-last.rest (tables c.loop-last.out) c.loop-last.invariant.1 c.in_ok-last.to (tables c.rule_item.new.out) told; shorter = omega (arith, read.shorter, c.loop-last.invariant.0) }
-
-pub loop-last-preserved : goal.loop-last-preserved
-loop-last-preserved c =
-    let read = c.in_ok-last.ensures in
-    let told = subst (λ b. AddsItem c.args.text.now (Ok (b, c.in_ok-last.to)) (rule_at (length c.args.text.now) (tokens_at c.args.text.now c.loop-last.rest)) emit_rule (tables c.loop-last.out) (tables c.rule_item.new.out)) c.if-last.false read.told in
-    (omega (arith, read.shorter, c.loop-last.invariant.0), goes_on (rule_at (length c.args.text.now)) emit_rule (tokens_at c.args.text.now c.args.at) (tables c.args.out.now) c.args.text.now c.loop-last.rest (tables c.loop-last.out) c.loop-last.invariant.1 c.in_ok-last.to (tables c.rule_item.new.out) told read.shorter)
+returns-clause-told c = c.add_all.ensures.told

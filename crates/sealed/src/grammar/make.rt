@@ -3,8 +3,8 @@ ghost use Rattle.sealed.specs.Limits.{in_limits};
 
 use super::Sealed;
 use crate::code::Code;
-use crate::span::Span;
 use crate::term::Term;
+use arena::Span;
 
 impl Sealed {
     /// A grammar of these parts, unless one of the lists is too long.

@@ -8,17 +8,17 @@ use Rattle.term.specs.Tables as entry
 use Rattle.term.specs.Tables.{tables, emit_term, between, bytes_after, span_of, ends_of}
 use Rattle.term.proofs.Puts.{kept_code, put_entry, same_tables}
 use Rattle.strings.specs.Decoding.{bytes_of}
-use Rattle.term.specs.declared.arenas.Span.{Span}
+use Rattle.arena.specs.declared.span.Span.{Span}
 use Rattle.term.proofs.literal.Goals as goal
 
-pub returns-in_err-ends : goal.returns-in_err-ends
-returns-in_err-ends c =
+pub returns-in_err-ends-clause-told : goal.returns-in_err-ends-clause-told
+returns-in_err-ends-clause-told c =
     let p = err_from_is_err_and c.from_residual.result c.from_residual.ensures.1 in
-    rw (p.1, p.2) record { told = (search rules, kept_code (tables c.args.out.now) (codes c.range.new.out) c.in_err-ends.ensures.told.1); shorter = tt }
+    rw (p.1, p.2) (search rules, kept_code (tables c.args.out.now) (codes c.range.new.out) c.in_err-ends.ensures.told.1)
 
-pub returns : goal.returns
+pub returns-clause-told : goal.returns-clause-told
 unfolding emit_term
-returns c =
+returns-clause-told c =
     let out = c.args.out.now in
     let r = c.in_ok-ends.ensures in
     let a = r.told.0 in
@@ -28,7 +28,4 @@ returns c =
     let decoded = c.decode_into.ensures in
     let span : ◌≡◌ {A = Span} (record { from = c.len-from.result; to = c.len-to.result }) (between before (bytes_after before bs)) = cc (c.len-from.ensures, c.len-to.ensures ∙ ap length decoded) in
     let is : entry.literal (record { from = c.len-from.result; to = c.len-to.result }) c.in_ok-ends.ends ≡ entry.literal (between before (bytes_after before bs)) (ends_of (codes out.code) a b) = cc (span, r.told.4) in
-    record {
-      told = (tree.literal bs a b, search rules, same_tables (put_entry (stored out.terms) (stored c.put.new.self) (term.Literal (record { from = c.len-from.result; to = c.len-to.result }) c.in_ok-ends.ends) (entry.literal (between before (bytes_after before bs)) (ends_of (codes out.code) a b)) c.put.ensures is) decoded r.told.3);
-      shorter = r.shorter;
-    }
+    (tree.literal bs a b, search rules, same_tables (put_entry (stored out.terms) (stored c.put.new.self) (term.Literal (record { from = c.len-from.result; to = c.len-to.result }) c.in_ok-ends.ends) (entry.literal (between before (bytes_after before bs)) (ends_of (codes out.code) a b)) c.put.ensures is) decoded r.told.3)

@@ -1,14 +1,20 @@
-use Rattle.std.proofs.Common.{map, ap, ◌∙◌}
-use Rattle.sealed.specs.Parts.{part, item_at}
+use Rattle.std.proofs.Common.{map, length, vec_items, refl, ap, ◌∙◌, arith}
+use Rattle.std.proofs.lemmas.Option.{slice_get_read, slice_get_past}
+use Rattle.arena.specs.Parts.{part}
 use Rattle.sealed.proofs.Grammars.{branch, rule_some, rule_none}
 use Rattle.sealed.proofs.grammar.Sealed.alternatives_of.Goals as goal
 
-pub returns-in_default : goal.returns-in_default
-returns-in_default c =
+pub returns-in-Some : goal.returns-in-Some
+returns-in-Some c =
     let g = c.args.self.now in
-    ap (map (branch g)) c.part_of.ensures ∙ rule_none g c.args.rule (c.in_default.ensures ∙ ap (λ xs. item_at xs c.args.rule) c.as_slice.ensures.value)
+    let s = c.in-Some.span.now in
+    let xs = vec_items g.rules in
+    let h = c.in-Some.ensures.lookup in
+    ap (map (branch g)) (c.of.ensures ∙ ap (part s) c.as_slice.ensures.value)
+    ∙ rule_some g c.args.rule s (slice_get_read xs (length xs) c.args.rule s refl (omega (arith, c.from.ensures, ap length c.deref.ensures.value)) (grind (arith)))
 
-pub returns : goal.returns
-returns c =
-    let g = c.args.self.now in
-    ap (map (branch g)) (c.part_of-2.ensures ∙ ap (part c.in-Some.span) c.as_slice-2.ensures.value) ∙ rule_some g c.args.rule c.in-Some.span (c.in-Some.ensures ∙ ap (λ xs. item_at xs c.args.rule) c.as_slice.ensures.value)
+pub returns-in-None : goal.returns-in-None
+returns-in-None c =
+    let xs = vec_items c.args.self.now.rules in
+    let h = c.in-None.ensures.lookup in
+    rule_none c.args.self.now c.args.rule (slice_get_past xs c.args.rule (omega (arith, c.from.ensures, ap length c.deref.ensures.value)))

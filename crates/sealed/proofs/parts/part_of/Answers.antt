@@ -1,7 +1,0 @@
-use Rattle.std.proofs.Common.{refl}
-use Rattle.sealed.proofs.Pieces.{part_is}
-use Rattle.sealed.proofs.parts.part_of.Goals as goal
-
-pub returns : goal.returns
-returns g c =
-    part_is c.args.items.now _ c.args.span c.min-from.result c.min-n.result c.saturating_sub.result c.min-from.ensures refl c.saturating_sub.ensures c.min-n.ensures
