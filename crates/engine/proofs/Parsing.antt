@@ -5,7 +5,7 @@ use Rattle.std.proofs.lemmas.Bool.{and_parts}
 use Rattle.std.proofs.lemmas.List.{get_or-take, length-map, length-take-le, take_at}
 use Rattle.meaning.specs.Meaning as meaning
 use Rattle.meaning.specs.declared.node.Node.{Node}
-use Rattle.meaning.specs.declared.window.Window.{Window}
+use Rattle.input.specs.declared.window.Window.{Window}
 use Rattle.frames.specs.declared.config.Frame.{Frame}
 use Rattle.engine.specs.declared.ending.Ending.{Ending}
 use Rattle.engine.specs.declared.outcome.Reply.TheVariants.{Ended}

@@ -3,11 +3,11 @@ use Rattle.std.proofs.Common.{◌≡◌, ℕ, suc, ◌+◌, ◌<◌, List, [], �
 use Rattle.std.proofs.lemmas.List.{get_or_default}
 use Rattle.meaning.specs.Syntax.{Grammar}
 use Rattle.meaning.specs.Meaning.{Replies}
-use Rattle.meaning.specs.Windows.{cover}
+use Rattle.input.specs.Windows.{cover}
 use Rattle.meaning.specs.Meaning.{with_call}
 use Rattle.machine.specs.Machine.{step}
 use Rattle.meaning.specs.declared.node.Node.{Node}
-use Rattle.meaning.specs.declared.window.Window.{Window}
+use Rattle.input.specs.declared.window.Window.{Window}
 use Rattle.meaning.specs.declared.run.State.{State}
 use Rattle.meaning.specs.declared.run.Limits.{Limits}
 use Rattle.stack.specs.declared.refusal.StackRefusal.{StackRefusal}

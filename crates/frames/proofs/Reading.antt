@@ -6,13 +6,14 @@ use Rattle.input.proofs.Windows.{window_length}
 use Rattle.fields.specs.Fields.{Fields, read_on}
 use Rattle.fields.specs.declared.reading.Reading.{Reading}
 use Rattle.meaning.specs.Syntax.{Grammar}
-use Rattle.meaning.specs.Windows.{cover, bytes_in}
+use Rattle.input.specs.Windows.{cover}
+use Rattle.meaning.specs.Windows.{bytes_in}
 use Rattle.meaning.specs.Runs.{◌>>◌, ◌>>=◌, goes_on, Ran}
 use Rattle.meaning.specs.Meaning.{field, noted, reads, leaf, tree}
 use Rattle.meaning.specs.Runs.Ran.{succeeds, fails}
 use Rattle.machine.specs.Machine.{after_field}
 use Rattle.meaning.specs.declared.node.Node.{Node}
-use Rattle.meaning.specs.declared.window.Window.{Window}
+use Rattle.input.specs.declared.window.Window.{Window}
 use Rattle.meaning.specs.declared.run.Start.{Start}
 use Rattle.meaning.specs.declared.run.State.{State}
 use Rattle.frames.specs.declared.config.Frame.{Frame}

@@ -7,13 +7,14 @@ use Rattle.meaning.specs.Syntax.{Grammar, Expr, Term}
 use Rattle.meaning.specs.Syntax.Term.{literal, call, attribute, guard}
 use Rattle.meaning.specs.Meaning.{Replies}
 use Rattle.meaning.specs.Values.{Progress, value, ends, if_some}
-use Rattle.meaning.specs.Windows.{cover, bytes_in}
+use Rattle.input.specs.Windows.{cover}
+use Rattle.meaning.specs.Windows.{bytes_in}
 use Rattle.meaning.specs.Runs.{◌>>=◌, ◌>>◌, goes_on, have, need}
 use Rattle.meaning.specs.Meaning.{reads, matches, same, term, with_literal, with_slot, nested, tree}
 use Rattle.machine.specs.Machine.{Next, step, step_term, step_terms, after_term, after_ends, go, advanced, Frame as Unfinished}
 use Rattle.machine.specs.Machine.Mode.{runs, tries}
 use Rattle.meaning.specs.declared.node.Node.{Node}
-use Rattle.meaning.specs.declared.window.Window.{Window}
+use Rattle.input.specs.declared.window.Window.{Window}
 use Rattle.meaning.specs.declared.run.Start.{Start}
 use Rattle.meaning.specs.declared.run.State.{State}
 use Rattle.meaning.specs.declared.run.Limits.{Limits}

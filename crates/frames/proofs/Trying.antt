@@ -7,7 +7,7 @@ use Rattle.meaning.specs.Meaning.{Replies}
 use Rattle.meaning.specs.Meaning.{nothing_yet}
 use Rattle.machine.specs.Machine.{step}
 use Rattle.meaning.specs.declared.node.Node.{Node}
-use Rattle.meaning.specs.declared.window.Window.{Window}
+use Rattle.input.specs.declared.window.Window.{Window}
 use Rattle.meaning.specs.declared.run.Start.{Start}
 use Rattle.meaning.specs.declared.run.State.{State}
 use Rattle.meaning.specs.declared.run.Limits.{Limits}

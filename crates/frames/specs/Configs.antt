@@ -11,7 +11,7 @@ use Rattle.meaning.specs.declared.node.Node.{Node}
 use Rattle.meaning.specs.declared.run.Limits.{Limits}
 use Rattle.meaning.specs.declared.run.Start.{Start}
 use Rattle.meaning.specs.declared.run.State.{State}
-use Rattle.meaning.specs.declared.window.Window.{Window}
+use Rattle.input.specs.declared.window.Window.{Window}
 use Rattle.machine.specs.Machine.{Next, go, after_field, next_step, Frame as Unfinished}
 use Rattle.machine.specs.Machine.Next.{over}
 use Rattle.machine.specs.Machine.Mode.{begins, runs, tries, returns, gives_up}

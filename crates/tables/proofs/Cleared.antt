@@ -1,7 +1,7 @@
 -- Tables that are blanked, entry by entry.
 use Rattle.std.proofs.Common.{◌≡◌, ℕ, ◌+◌, ◌-◌, ◌<◌, ◌≤◌, List, [], ◌∷◌, ◌++◌, map, length, get_or, take, drop, set, replicate, sym, ap, ◌∙◌, append_assoc, add-zero, arith, take-append-drop}
 use Rattle.meaning.specs.declared.node.Node.{Node}
-use Rattle.meaning.specs.declared.window.Window.{Window}
+use Rattle.input.specs.declared.window.Window.{Window}
 use Rattle.frames.specs.Blanks.{blank_node}
 use Rattle.tables.specs.Places.{placed, absolute, NodeFits}
 use Rattle.std.proofs.lemmas.List.{take_more_set, replicate_more, take_all, map_more, drop-set-lt, drop-drop, get_or-drop, get_or_default}

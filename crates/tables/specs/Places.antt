@@ -1,7 +1,7 @@
 -- Places of the input, from places that count from the left end of a window.
 use Rattle.std.specs.Prelude.{ℕ, ◌+◌, ◌<◌}
 use Rattle.meaning.specs.declared.node.Node.{Node}
-use Rattle.meaning.specs.declared.window.Window.{Window}
+use Rattle.input.specs.declared.window.Window.{Window}
 
 abbrev pub placed : (left : ℕ) → Window → Window
 placed left w = record { left = w.left + left; right = w.right + left }
