@@ -1,2 +1,4 @@
-pub mod Replies
-pub mod Parses
+pub mod Blanks
+pub mod Configs
+pub mod Places
+pub mod Steps

@@ -1,0 +1,38 @@
+use Rattle.std.proofs.Common.{rules, ◌<◌, length, set, refl, ap, ◌∙◌, arith}
+use Rattle.stack.specs.Stacks.{held}
+use Rattle.meaning.specs.declared.node.Node.{Node}
+use Rattle.engine.specs.Blanks.{blank_node}
+use Rattle.engine.specs.Steps.{subject}
+use Rattle.engine.proofs.Driving.{in_use, has_try, has_next}
+use Rattle.engine.proofs.Running.{attribute_none, attribute_goes}
+use Rattle.engine.proofs.tables.Tables.run_attribute.Goals as goal
+
+pub value_of-requires : goal.value_of-requires
+value_of-requires g c = (in_use _ _ _ _ _ _ _ c.requires.sound).0
+
+pub next_try-requires : goal.next_try-requires
+next_try-requires g c = has_try _ _ _ _ _ _ _ c.requires.sound
+
+pub bounds-self-f : goal.bounds-self-f
+bounds-self-f g c = let u = in_use _ _ _ _ _ _ _ c.requires.sound in omega (arith, u.0, u.1)
+
+
+
+
+pub offset_bounds-self-f : goal.offset_bounds-self-f
+offset_bounds-self-f g c = let u = in_use _ _ _ _ _ _ _ c.requires.sound in let h : c.args.f.what.node < length c.args.self.now.nodes.now = omega (arith, u.0, u.1) in search rules
+
+pub onward-requires : goal.onward-requires
+onward-requires g c = has_next _ _ _ _ _ _ _ c.requires.sound _ c.requires.next
+
+pub returns-in_default-clause-goes : goal.returns-in_default-clause-goes
+returns-in_default-clause-goes g c =
+    let q = subject g.I.Input.shown g.R.FieldReader.meaning c.args.setting.now in
+    let t = c.args.self.now in
+    attribute_none q.read q.grammar t.limits q.bytes (held t.stack) t.nodes.now t.count t.state c.args.f c.requires.sound c.args.k _ c.requires.next _ c.next_try.ensures c.in_default.ensures
+
+pub returns-clause-goes : goal.returns-clause-goes
+returns-clause-goes g c =
+    let q = subject g.I.Input.shown g.R.FieldReader.meaning c.args.setting.now in
+    let t = c.args.self.now in
+    attribute_goes q.read q.grammar t.limits q.bytes (held t.stack) t.nodes.now t.count t.state c.args.f c.requires.sound c.args.k _ c.requires.next c.onward.result c.in-Some.v _ _ c.onward.ensures c.in-Some.ensures c.put_slot.ensures

@@ -1,0 +1,40 @@
+use Rattle.stack.specs.Stacks.{held}
+use Rattle.meaning.specs.Meaning.{read_of}
+use Rattle.sealed.specs.Grammars.{grammar_of}
+use Rattle.engine.specs.Steps.{subject}
+use Rattle.engine.proofs.Driving.{in_use, has_try, has_next}
+use Rattle.engine.proofs.Running.{guard_none, guard_zero, guard_goes}
+use Rattle.engine.proofs.tables.Tables.run_guard.Goals as goal
+
+pub value_of-requires : goal.value_of-requires
+value_of-requires g c = (in_use _ _ _ _ _ _ _ c.requires.sound).0
+
+pub next_try-requires : goal.next_try-requires
+next_try-requires g c = has_try _ _ _ _ _ _ _ c.requires.sound
+
+pub next_try-requires-then-v-eq0 : goal.next_try-requires-then-v-eq0
+next_try-requires-then-v-eq0 g c = has_try _ _ _ _ _ _ _ c.requires.sound
+
+pub onward-requires : goal.onward-requires
+onward-requires g c = has_next _ _ _ _ _ _ _ c.requires.sound _ c.requires.next
+
+pub returns-in_default-clause-goes : goal.returns-in_default-clause-goes
+returns-in_default-clause-goes g c =
+    let q = subject g.I.Input.shown g.R.FieldReader.meaning c.args.setting.now in
+    let t = c.args.self.now in
+    let f = c.args.f in
+    guard_none q.read q.grammar t.limits q.bytes (held t.stack) t.nodes.now t.count t.state f c.requires.sound _ c.requires.next _ c.next_try.ensures c.in_default.ensures
+
+pub returns-then-v-eq0-clause-goes : goal.returns-then-v-eq0-clause-goes
+returns-then-v-eq0-clause-goes g c =
+    let q = subject g.I.Input.shown g.R.FieldReader.meaning c.args.setting.now in
+    let t = c.args.self.now in
+    let f = c.args.f in
+    guard_zero q.read q.grammar t.limits q.bytes (held t.stack) t.nodes.now t.count t.state f c.requires.sound _ c.requires.next _ c.in-Some.v c.next_try-then-v-eq0.ensures c.in-Some.ensures c.if-v-eq0.true
+
+pub returns-clause-goes : goal.returns-clause-goes
+returns-clause-goes g c =
+    let q = subject g.I.Input.shown g.R.FieldReader.meaning c.args.setting.now in
+    let t = c.args.self.now in
+    let f = c.args.f in
+    guard_goes q.read q.grammar t.limits q.bytes (held t.stack) t.nodes.now t.count t.state f c.requires.sound _ c.requires.next _ c.in-Some.v c.onward.ensures c.in-Some.ensures c.if-v-eq0.false

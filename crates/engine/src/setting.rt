@@ -1,0 +1,8 @@
+use sealed::Sealed;
+
+// What a parse reads and never changes.
+pub(crate) struct Setting<'a, I, R> {
+    pub(crate) grammar: &'a Sealed,
+    pub(crate) readers: &'a R,
+    pub(crate) input: &'a I,
+}
