@@ -1,11 +1,6 @@
 -- What a derived default makes is blank.
-use Rattle.std.proofs.Common.{◌≡◌, ℕ, List, [], ◌∷◌, length, replicate, refl, arith}
+use Rattle.std.proofs.Common.{◌≡◌, ℕ, List, [], ◌∷◌, replicate, refl, arith}
 use Rattle.std.specs.Array.{AllOfLen}
-use Rattle.input.specs.declared.window.Window.{Window}
-use Rattle.meaning.specs.declared.node.Node.{Node}
-use Rattle.meaning.specs.declared.run.Start.{Start}
-use Rattle.engine.specs.Blanks.{nowhere, blank_node, no_start, blank_frame}
-use Rattle.engine.specs.declared.frame.Frame.{Frame}
 
 abbrev IsZero : ℕ → Type 0
 IsZero n = n ≡ 0

@@ -10,3 +10,5 @@ pub mod Cleared
 pub mod Same
 pub mod Standing
 pub mod Turning
+pub mod Outcomes
+pub mod Parsing

@@ -3,10 +3,8 @@ use Rattle.std.specs.Prelude.{◌≡◌, ℕ, ◌≤◌, List, length}
 use Rattle.stack.specs.Stacks.{held}
 use Rattle.input.specs.Bytes.{Shown}
 use Rattle.fields.specs.Fields.{Fields}
-use Rattle.fields.specs.declared.reading.Reading.{Reading}
 use Rattle.meaning.specs.Syntax.{Grammar}
 use Rattle.meaning.specs.Meaning.{Replies, field, read_of}
-use Rattle.meaning.specs.Runs.{Ran}
 use Rattle.meaning.specs.declared.run.Start.{Start}
 use Rattle.machine.specs.Machine.{Next}
 use Rattle.sealed.specs.Grammars.{grammar_of}

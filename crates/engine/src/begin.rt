@@ -42,11 +42,7 @@ impl<'a> Tables<'a> {
     }
 
     // A reader is asked for its field.
-    fn read_field<I: Input, R: FieldReader>(
-        &mut self,
-        setting: &Setting<I, R>,
-        c: Start,
-    ) -> Mode
+    fn read_field<I: Input, R: FieldReader>(&mut self, setting: &Setting<I, R>, c: Start) -> Mode
         requires node { c.node < length self.old.nodes.now }
         requires window { Inside (grammar_of setting.now.grammar.now) (I.Input.shown setting.now.input.now).bytes c }
         ensures answers { Answers (subject I.Input.shown R.FieldReader.meaning setting.now) self.old c self.new result }
@@ -54,7 +50,10 @@ impl<'a> Tables<'a> {
         ensures stack { held self.new.stack ≡ held self.old.stack }
     {
         let w = c.window;
-        match setting.readers.read(c.number, setting.input, w.left, w.right) {
+        match setting
+            .readers
+            .read(c.number, setting.input, w.left, w.right)
+        {
             Some(v) => {
                 let used = Window {
                     left: w.left,

@@ -42,7 +42,8 @@ impl<'a> Tables<'a> {
         requires { SoundAt (subject I.Input.shown R.FieldReader.meaning setting.now) self.old first }
         ensures means { stands_at (subject I.Input.shown R.FieldReader.meaning setting.now).grammar self.new result ≡ over (next_means (subject I.Input.shown R.FieldReader.meaning setting.now).read (subject I.Input.shown R.FieldReader.meaning setting.now).grammar self.old.limits (subject I.Input.shown R.FieldReader.meaning setting.now).bytes (stands_at (subject I.Input.shown R.FieldReader.meaning setting.now).grammar self.old first)) }
         ensures sound { SoundAt (subject I.Input.shown R.FieldReader.meaning setting.now) self.new result }
-        ensures kept { Kept self.old self.new }
+        ensures frames { self.new.stack.slots.ghost_name ≡ self.old.stack.slots.ghost_name }
+        ensures nodes { self.new.nodes.ghost_name ≡ self.old.nodes.ghost_name }
     {
         let mut mode = first;
         while mode.goes_on() {

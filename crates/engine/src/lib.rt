@@ -6,9 +6,13 @@
 #![tactic(auto)]
 
 mod begin;
+mod conclude;
 mod drive;
 pub mod frame;
 pub mod mode;
+pub mod outcome;
+mod parse;
+mod places;
 mod runs;
 mod setting;
 mod steps;
@@ -16,3 +20,4 @@ mod tables;
 mod terms;
 
 pub use frame::Frame;
+pub use outcome::{Outcome, Refusal};

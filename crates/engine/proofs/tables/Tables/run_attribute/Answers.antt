@@ -1,7 +1,5 @@
-use Rattle.std.proofs.Common.{rules, ◌<◌, length, set, refl, ap, ◌∙◌, arith}
+use Rattle.std.proofs.Common.{rules, ◌<◌, length, arith}
 use Rattle.stack.specs.Stacks.{held}
-use Rattle.meaning.specs.declared.node.Node.{Node}
-use Rattle.engine.specs.Blanks.{blank_node}
 use Rattle.engine.specs.Steps.{subject}
 use Rattle.engine.proofs.Driving.{in_use, has_try, has_next}
 use Rattle.engine.proofs.Running.{attribute_none, attribute_goes}
@@ -15,9 +13,6 @@ next_try-requires g c = has_try _ _ _ _ _ _ _ c.requires.sound
 
 pub bounds-self-f : goal.bounds-self-f
 bounds-self-f g c = let u = in_use _ _ _ _ _ _ _ c.requires.sound in omega (arith, u.0, u.1)
-
-
-
 
 pub offset_bounds-self-f : goal.offset_bounds-self-f
 offset_bounds-self-f g c = let u = in_use _ _ _ _ _ _ _ c.requires.sound in let h : c.args.f.what.node < length c.args.self.now.nodes.now = omega (arith, u.0, u.1) in search rules

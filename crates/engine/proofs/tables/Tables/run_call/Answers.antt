@@ -1,4 +1,4 @@
-use Rattle.std.proofs.Common.{◌<◌, ◌∷◌, length, refl, ap, ◌∙◌, arith}
+use Rattle.std.proofs.Common.{◌<◌, length, refl, ◌∙◌, arith}
 use Rattle.stack.specs.Stacks.{held, room}
 use Rattle.evaluate.proofs.Pushing.{pushed_held}
 use Rattle.engine.specs.Steps.{subject}

@@ -1,6 +1,4 @@
 use Rattle.stack.specs.Stacks.{held}
-use Rattle.meaning.specs.Meaning.{read_of}
-use Rattle.sealed.specs.Grammars.{grammar_of}
 use Rattle.engine.specs.Steps.{subject}
 use Rattle.engine.proofs.Driving.{in_use, has_try, has_next}
 use Rattle.engine.proofs.Running.{guard_none, guard_zero, guard_goes}

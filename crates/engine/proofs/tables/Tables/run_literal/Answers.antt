@@ -1,7 +1,5 @@
-use Rattle.std.proofs.Common.{length, refl, sym, ap, ◌∙◌, arith}
-use Rattle.input.specs.Windows.{cover}
+use Rattle.std.proofs.Common.{length, sym, ap, ◌∙◌, arith}
 use Rattle.stack.specs.Stacks.{held}
-use Rattle.meaning.specs.declared.run.State.{State}
 use Rattle.engine.specs.Configs.{so_of}
 use Rattle.engine.specs.Steps.{subject}
 use Rattle.engine.proofs.Driving.{in_use, within, has_try, has_next}

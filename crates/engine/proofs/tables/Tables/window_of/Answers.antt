@@ -1,7 +1,7 @@
 use Rattle.std.proofs.Common.{◌≡◌, true, false, sym, ap, ◌∙◌}
 use Rattle.input.specs.Bytes.{in_order}
 use Rattle.input.specs.Windows.{size}
-use Rattle.meaning.specs.Values.{value, ends, if_some}
+use Rattle.meaning.specs.Values.{ends, if_some}
 use Rattle.engine.proofs.tables.Tables.window_of.Goals as goal
 
 pub returns-in_err-left : goal.returns-in_err-left
