@@ -4,3 +4,4 @@ pub mod Lawful
 pub mod Numbers
 pub mod Names
 pub mod Plain
+pub mod Kinds

@@ -4,7 +4,7 @@ ghost use Rattle.fields.specs.Numbers.{joined_fields};
 
 use crate::reader::FieldReader;
 use crate::reading::Reading;
-use input::Input;
+use input::{Input, Window};
 
 /// Two readers as one. It owns the numbers of both sides; where both own a number the left one answers, also if it refuses.
 #[derive(Clone, Copy, Drop)]
@@ -20,11 +20,11 @@ impl<L: FieldReader, R: FieldReader> FieldReader for Joined<L, R> {
         self.left.owns(number) || self.right.owns(number)
     }
 
-    fn read<I: Input>(&self, number: u16, input: &I, left: usize, right: usize) -> Option<Reading> {
+    fn read<I: Input>(&self, number: u16, input: &I, window: Window) -> Option<Reading> {
         if self.left.owns(number) {
-            self.left.read(number, input, left, right)
+            self.left.read(number, input, window)
         } else {
-            self.right.read(number, input, left, right)
+            self.right.read(number, input, window)
         }
     }
 }

@@ -3,7 +3,7 @@ ghost use Rattle.fields.specs.Fields.{Fields, read_on};
 
 use crate::reader::FieldReader;
 use crate::reading::Reading;
-use input::Input;
+use input::{Input, Window};
 
 // A reader that is lent reads what it read.
 impl<'a, R: FieldReader> FieldReader for &'a R {
@@ -13,7 +13,7 @@ impl<'a, R: FieldReader> FieldReader for &'a R {
         (**self).owns(number)
     }
 
-    fn read<I: Input>(&self, number: u16, input: &I, left: usize, right: usize) -> Option<Reading> {
-        (**self).read(number, input, left, right)
+    fn read<I: Input>(&self, number: u16, input: &I, window: Window) -> Option<Reading> {
+        (**self).read(number, input, window)
     }
 }

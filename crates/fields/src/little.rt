@@ -3,22 +3,17 @@ ghost use Rattle.fields.specs.Fields.{on_window};
 ghost use Rattle.fields.specs.Readings.{little_endian, little_reading};
 
 use crate::reading::Reading;
-use input::Input;
+use input::{Input, Window};
 
 // Reads `width` bytes from the front of a window as one number, the lowest byte first; refuses a shorter window.
-pub(crate) fn read_little<I: Input>(
-    input: &I,
-    left: usize,
-    right: usize,
-    width: usize,
-) -> Option<Reading>
+pub(crate) fn read_little<I: Input>(input: &I, window: Window, width: usize) -> Option<Reading>
     requires { width ≤ 8 }
-    ensures { result ≡ on_window (little_reading width) (I.Input.shown input.now).bytes left right }
+    ensures { result ≡ on_window (little_reading width) (I.Input.shown input.now).bytes window.left window.right }
 {
-    if left > right || right > input.len() || right - left < width {
+    if !window.is_in(input.len()) || window.len() < width {
         return None;
     }
-    let value = little(input, left, width)?;
+    let value = little(input, window.left, width)?;
     Some(Reading { value, used: width })
 }
 

@@ -1,22 +1,26 @@
 ghost use Rattle.std.specs.Prelude.{◌≡◌, ℕ, ◌-◌, ◌≤◌, length, take, Some};
+ghost use Rattle.fields.specs.Fields.{read_on};
 ghost use Rattle.fields.specs.declared.reading.Reading.{Reading};
 
 use fields::{FieldReader, Reading};
-use input::Input;
+use input::{Input, Window};
 
 /// How many bytes of a window a reader uses, 0 where it refuses: no reader goes past its window.
-pub fn used<R: FieldReader, I: Input>(
-    reader: &R,
-    number: u16,
-    input: &I,
-    left: usize,
-    right: usize,
-) -> usize
-    ensures { result ≤ right - left }
+pub fn used<R: FieldReader, I: Input>(reader: &R, number: u16, input: &I, window: Window) -> usize
+    ensures { result ≤ window.right - window.left }
 {
-    match reader.read(number, input, left, right) {
+    match reader.read(number, input, window) {
         Some(reading) => reading.used,
         None => 0,
+    }
+}
+
+fn whole<I: Input>(input: &I) -> Window
+    ensures { result ≡ record { left = 0; right = length (I.Input.shown input.now).bytes } }
+{
+    Window {
+        left: 0,
+        right: input.len(),
     }
 }
 
@@ -27,9 +31,11 @@ pub fn read_both<R: FieldReader, I: Input, J: Input>(
     first: &I,
     second: &J,
 ) -> (Option<Reading>, Option<Reading>)
-    ensures { (v : Reading) → result.0 ≡ Some v → length (J.Input.shown second.now).bytes ≡ length (I.Input.shown first.now).bytes → take v.used (J.Input.shown second.now).bytes ≡ take v.used (I.Input.shown first.now).bytes → result.1 ≡ Some v }
+    ensures one { result.0 ≡ read_on (R.FieldReader.meaning reader.now) number (I.Input.shown first.now).bytes 0 (length (I.Input.shown first.now).bytes) }
+    ensures other { result.1 ≡ read_on (R.FieldReader.meaning reader.now) number (J.Input.shown second.now).bytes 0 (length (J.Input.shown second.now).bytes) }
+    ensures agree { (v : Reading) → result.0 ≡ Some v → length (J.Input.shown second.now).bytes ≡ length (I.Input.shown first.now).bytes → take v.used (J.Input.shown second.now).bytes ≡ take v.used (I.Input.shown first.now).bytes → result.1 ≡ Some v }
 {
-    let one = reader.read(number, first, 0, first.len());
-    let other = reader.read(number, second, 0, second.len());
+    let one = reader.read(number, first, whole(first));
+    let other = reader.read(number, second, whole(second));
     (one, other)
 }

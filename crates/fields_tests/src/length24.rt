@@ -3,7 +3,7 @@ ghost use Rattle.fields.specs.Fields.{Fields, read_on};
 ghost use Rattle.fields_tests.specs.Lengths.{length24_fields};
 
 use fields::{FieldReader, Reading};
-use input::Input;
+use input::{Input, Window};
 
 /// A reader as a user writes one: a length in three bytes, the highest first, under a number of the user's choice.
 #[derive(Clone, Copy, PartialEq, Eq, Debug)]
@@ -18,13 +18,13 @@ impl FieldReader for Length24 {
         number == self.number
     }
 
-    fn read<I: Input>(&self, number: u16, input: &I, left: usize, right: usize) -> Option<Reading> {
-        if number != self.number || left > right || right > input.len() || right - left < 3 {
+    fn read<I: Input>(&self, number: u16, input: &I, window: Window) -> Option<Reading> {
+        if number != self.number || !window.is_in(input.len()) || window.len() < 3 {
             return None;
         }
-        let high = input.byte(left)?;
-        let middle = input.byte(left + 1)?;
-        let low = input.byte(left + 2)?;
+        let high = input.byte(window.left)?;
+        let middle = input.byte(window.left + 1)?;
+        let low = input.byte(window.left + 2)?;
         let value = u64::from(high) * 65536 + u64::from(middle) * 256 + u64::from(low);
         Some(Reading { value, used: 3 })
     }

@@ -1,8 +1,12 @@
 use crate::any_reader::{read_both, used};
 use fields::{Builtin, FieldReader, Reading, reader_name, reader_number};
-use input::{Bench, SliceInput, WindowInput};
+use input::{Bench, SliceInput, Window, WindowInput};
 
 const BYTES: [u8; 10] = [0x81, 0x02, 0x03, 0x84, 0x05, 0x06, 0x07, 0x88, 0x09, 0xFF];
+
+fn at(left: usize, right: usize) -> Window {
+    Window { left, right }
+}
 
 fn reading(value: u64, used: usize) -> Option<Reading> {
     Some(Reading { value, used })
@@ -11,51 +15,51 @@ fn reading(value: u64, used: usize) -> Option<Reading> {
 #[test]
 fn shortest_windows(rt: HostRuntime) {
     let input = SliceInput::new(&BYTES);
-    assert_eq!(rt; Builtin.read(32, &input, 0, 1), reading(0x81, 1));
-    assert_eq!(rt; Builtin.read(33, &input, 0, 2), reading(0x0281, 2));
-    assert_eq!(rt; Builtin.read(35, &input, 0, 4), reading(0x8403_0281, 4));
+    assert_eq!(rt; Builtin.read(32, &input, at(0, 1)), reading(0x81, 1));
+    assert_eq!(rt; Builtin.read(33, &input, at(0, 2)), reading(0x0281, 2));
+    assert_eq!(rt; Builtin.read(35, &input, at(0, 4)), reading(0x8403_0281, 4));
     assert_eq!(rt;
-        Builtin.read(37, &input, 0, 8),
+        Builtin.read(37, &input, at(0, 8)),
         reading(0x8807_0605_8403_0281, 8)
     );
-    assert_eq!(rt; Builtin.read(40, &input, 0, 1), reading(1, 1));
+    assert_eq!(rt; Builtin.read(40, &input, at(0, 1)), reading(1, 1));
 }
 
 #[test]
 fn one_byte_less(rt: HostRuntime) {
     let input = SliceInput::new(&BYTES);
-    assert_eq!(rt; Builtin.read(32, &input, 0, 0), None);
-    assert_eq!(rt; Builtin.read(33, &input, 0, 1), None);
-    assert_eq!(rt; Builtin.read(35, &input, 0, 3), None);
-    assert_eq!(rt; Builtin.read(37, &input, 0, 7), None);
-    assert_eq!(rt; Builtin.read(40, &input, 0, 0), None);
+    assert_eq!(rt; Builtin.read(32, &input, at(0, 0)), None);
+    assert_eq!(rt; Builtin.read(33, &input, at(0, 1)), None);
+    assert_eq!(rt; Builtin.read(35, &input, at(0, 3)), None);
+    assert_eq!(rt; Builtin.read(37, &input, at(0, 7)), None);
+    assert_eq!(rt; Builtin.read(40, &input, at(0, 0)), None);
 }
 
 #[test]
 fn longer_windows(rt: HostRuntime) {
     let input = SliceInput::new(&BYTES);
-    assert_eq!(rt; Builtin.read(32, &input, 0, 10), reading(0x81, 1));
-    assert_eq!(rt; Builtin.read(33, &input, 0, 10), reading(0x0281, 2));
-    assert_eq!(rt; Builtin.read(35, &input, 0, 5), reading(0x8403_0281, 4));
+    assert_eq!(rt; Builtin.read(32, &input, at(0, 10)), reading(0x81, 1));
+    assert_eq!(rt; Builtin.read(33, &input, at(0, 10)), reading(0x0281, 2));
+    assert_eq!(rt; Builtin.read(35, &input, at(0, 5)), reading(0x8403_0281, 4));
     assert_eq!(rt;
-        Builtin.read(37, &input, 0, 9),
+        Builtin.read(37, &input, at(0, 9)),
         reading(0x8807_0605_8403_0281, 8)
     );
-    assert_eq!(rt; Builtin.read(40, &input, 0, 10), reading(10, 10));
+    assert_eq!(rt; Builtin.read(40, &input, at(0, 10)), reading(10, 10));
 }
 
 #[test]
 fn the_far_end(rt: HostRuntime) {
     let input = SliceInput::new(&BYTES);
-    assert_eq!(rt; Builtin.read(32, &input, 9, 10), reading(0xFF, 1));
-    assert_eq!(rt; Builtin.read(33, &input, 8, 10), reading(0xFF09, 2));
+    assert_eq!(rt; Builtin.read(32, &input, at(9, 10)), reading(0xFF, 1));
+    assert_eq!(rt; Builtin.read(33, &input, at(8, 10)), reading(0xFF09, 2));
     assert_eq!(rt;
-        Builtin.read(37, &input, 2, 10),
+        Builtin.read(37, &input, at(2, 10)),
         reading(0xFF09_8807_0605_8403, 8)
     );
-    assert_eq!(rt; Builtin.read(32, &input, 10, 10), None);
-    assert_eq!(rt; Builtin.read(40, &input, 9, 11), None);
-    assert_eq!(rt; Builtin.read(40, &input, 5, 4), None);
+    assert_eq!(rt; Builtin.read(32, &input, at(10, 10)), None);
+    assert_eq!(rt; Builtin.read(40, &input, at(9, 11)), None);
+    assert_eq!(rt; Builtin.read(40, &input, at(5, 4)), None);
 }
 
 #[test]
@@ -63,8 +67,8 @@ fn numbers_not_owned(rt: HostRuntime) {
     let input = SliceInput::new(&BYTES);
     assert!(rt; Builtin.owns(37));
     assert!(rt; !Builtin.owns(34));
-    assert_eq!(rt; Builtin.read(34, &input, 0, 10), None);
-    assert_eq!(rt; Builtin.read(41, &input, 0, 10), None);
+    assert_eq!(rt; Builtin.read(34, &input, at(0, 10)), None);
+    assert_eq!(rt; Builtin.read(41, &input, at(0, 10)), None);
 }
 
 #[test]
@@ -78,21 +82,21 @@ fn names(rt: HostRuntime) {
 
 #[test]
 fn over_a_window(rt: HostRuntime) {
-    let window = WindowInput::new(SliceInput::new(&BYTES), 3, 6);
-    assert_eq!(rt; Builtin.read(33, &window, 1, 3), reading(0x0605, 2));
-    assert_eq!(rt; Builtin.read(33, &window, 2, 3), None);
-    assert_eq!(rt; Builtin.read(40, &window, 0, 4), None);
-    assert_eq!(rt; used(&Builtin, 40, &window, 0, 3), 3);
+    let window = WindowInput::new(SliceInput::new(&BYTES), at(3, 6));
+    assert_eq!(rt; Builtin.read(33, &window, at(1, 3)), reading(0x0605, 2));
+    assert_eq!(rt; Builtin.read(33, &window, at(2, 3)), None);
+    assert_eq!(rt; Builtin.read(40, &window, at(0, 4)), None);
+    assert_eq!(rt; used(&Builtin, 40, &window, at(0, 3)), 3);
 }
 
 #[test]
 fn over_a_bench(rt: HostRuntime) {
     let mut bench = Bench::new(SliceInput::new(&BYTES));
     assert_eq!(rt; bench.patch(1, &[0x77]), Ok(()));
-    assert_eq!(rt; Builtin.read(33, &bench, 0, 2), reading(0x7781, 2));
-    assert_eq!(rt; Builtin.read(33, &bench, 2, 4), reading(0x8403, 2));
+    assert_eq!(rt; Builtin.read(33, &bench, at(0, 2)), reading(0x7781, 2));
+    assert_eq!(rt; Builtin.read(33, &bench, at(2, 4)), reading(0x8403, 2));
     assert_eq!(rt; bench.undo(), Ok(()));
-    assert_eq!(rt; Builtin.read(33, &bench, 0, 2), reading(0x0281, 2));
+    assert_eq!(rt; Builtin.read(33, &bench, at(0, 2)), reading(0x0281, 2));
 }
 
 #[test]

@@ -1,8 +1,12 @@
 use crate::length24::Length24;
 use fields::{Builtin, FieldReader, Joined, Reading};
-use input::SliceInput;
+use input::{SliceInput, Window};
 
 const BYTES: [u8; 4] = [0x01, 0x02, 0x03, 0x04];
+
+fn at(left: usize, right: usize) -> Window {
+    Window { left, right }
+}
 
 fn reading(value: u64, used: usize) -> Option<Reading> {
     Some(Reading { value, used })
@@ -12,10 +16,10 @@ fn reading(value: u64, used: usize) -> Option<Reading> {
 fn a_reader_of_ones_own(rt: HostRuntime) {
     let input = SliceInput::new(&BYTES);
     let mine = Length24 { number: 50 };
-    assert_eq!(rt; mine.read(50, &input, 0, 3), reading(0x01_02_03, 3));
-    assert_eq!(rt; mine.read(50, &input, 1, 4), reading(0x02_03_04, 3));
-    assert_eq!(rt; mine.read(50, &input, 0, 2), None);
-    assert_eq!(rt; mine.read(33, &input, 0, 4), None);
+    assert_eq!(rt; mine.read(50, &input, at(0, 3)), reading(0x01_02_03, 3));
+    assert_eq!(rt; mine.read(50, &input, at(1, 4)), reading(0x02_03_04, 3));
+    assert_eq!(rt; mine.read(50, &input, at(0, 2)), None);
+    assert_eq!(rt; mine.read(33, &input, at(0, 4)), None);
 }
 
 #[test]
@@ -28,9 +32,9 @@ fn both_sides(rt: HostRuntime) {
     };
     assert!(rt; both.owns(33) && both.owns(50));
     assert!(rt; !both.owns(51));
-    assert_eq!(rt; both.read(33, &input, 0, 4), reading(0x0201, 2));
-    assert_eq!(rt; both.read(50, &input, 0, 4), reading(0x01_02_03, 3));
-    assert_eq!(rt; both.read(51, &input, 0, 4), None);
+    assert_eq!(rt; both.read(33, &input, at(0, 4)), reading(0x0201, 2));
+    assert_eq!(rt; both.read(50, &input, at(0, 4)), reading(0x01_02_03, 3));
+    assert_eq!(rt; both.read(51, &input, at(0, 4)), None);
 }
 
 // Where both sides own a number the left one answers, also if it refuses.
@@ -46,8 +50,11 @@ fn sides_that_overlap(rt: HostRuntime) {
         left: Builtin,
         right: mine,
     };
-    assert_eq!(rt; mine_first.read(33, &input, 0, 4), reading(0x01_02_03, 3));
-    assert_eq!(rt; mine_last.read(33, &input, 0, 4), reading(0x0201, 2));
-    assert_eq!(rt; mine_first.read(33, &input, 0, 2), None);
-    assert_eq!(rt; mine_first.read(32, &input, 0, 2), reading(0x01, 1));
+    assert_eq!(rt;
+        mine_first.read(33, &input, at(0, 4)),
+        reading(0x01_02_03, 3)
+    );
+    assert_eq!(rt; mine_last.read(33, &input, at(0, 4)), reading(0x0201, 2));
+    assert_eq!(rt; mine_first.read(33, &input, at(0, 2)), None);
+    assert_eq!(rt; mine_first.read(32, &input, at(0, 2)), reading(0x01, 1));
 }

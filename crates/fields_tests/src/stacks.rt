@@ -1,4 +1,5 @@
 use crate::two::{Frame, push_two};
+use answers::Numbered;
 use stack::{Stack, StackCall, StackRefusal};
 
 #[test]

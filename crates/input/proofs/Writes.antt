@@ -1,9 +1,12 @@
 -- What is shown at a place under errata.
-use Rattle.std.proofs.Common.{◌≡◌, ℕ, suc, ◌+◌, ◌-◌, ◌<◌, Bool, true, false, cond, ◌&&◌, ltb, leb, List, [], ◌∷◌, ◌++◌, length, get_or, set, Some, None, Option, refl, ap, ◌∙◌, ⊎_elim, arith, length-set}
+use Rattle.std.proofs.Common.{◌≡◌, ℕ, suc, ◌+◌, ◌-◌, ◌<◌, Bool, true, false, cond, ◌&&◌, ltb, leb, List, [], ◌∷◌, map, length, get_or, set, Some, None, Option, refl, ap, ◌∙◌, ⊎_elim, arith, length-set}
 use Rattle.std.proofs.lemmas.List.{get_or-set_same, get_or-set_other}
 use Rattle.std.proofs.lemmas.Bool.{cases_order}
 use Rattle.std.proofs.lemmas.Bool.Decides.{nat_tests}
-use Rattle.input.specs.Errata.{Erratum, over, shows, erratum_at, covers, length_shows, length_over, or_default, or_else, latest_at, LatestShows}
+use Rattle.std.specs.List.{fold}
+use Rattle.std.specs.Option.{unwrap_or}
+use Rattle.input.specs.declared.patch.Patch.{Patch}
+use Rattle.input.specs.Errata.{Erratum, erratum_of, over, shows, erratum_at, covers, length_over, or_default, or_else, latest_at, LatestShows}
 
 abbrev covered : ℕ → ℕ → ℕ → Bool
 covered p n k = leb p k && ltb (k - p) n
@@ -32,20 +35,24 @@ cond_default : (t : Bool) (v d : ℕ) → cond t v d ≡ or_default (cond t (Som
 cond_default true v d = refl
 cond_default false v d = refl
 
+default_is : (o : Option ℕ) (d : ℕ) → or_default o d ≡ unwrap_or o d
+default_is (Some b) d = refl
+default_is None d = refl
+
 -- one erratum
 erratum_over : (xs : List ℕ) (e : Erratum) (k : ℕ) → k < length xs → get_or (over xs e.place e.bytes) k 0 ≡ or_default (erratum_at e k) (get_or xs k 0)
 erratum_over xs e k h =
     over_at xs e.place e.bytes k h ∙ cond_default (covers e k) (get_or e.bytes (k - e.place) 0) (get_or xs k 0)
 
-shows_more : (xs : List ℕ) (es : List Erratum) (e : Erratum) → shows xs (es ++ e ∷ []) ≡ over (shows xs es) e.place e.bytes
-shows_more xs [] e = refl
-shows_more xs (f ∷ es) e = shows_more (over xs f.place f.bytes) es e
-
--- one erratum more
-pub shows_at : (xs : List ℕ) (es : List Erratum) (e : Erratum) (k : ℕ) → k < length xs → get_or (shows xs (es ++ e ∷ [])) k 0 ≡ or_default (erratum_at e k) (get_or (shows xs es) k 0)
-shows_at xs es e k h =
-    let h' : k < length (shows xs es) = omega (arith, length_shows xs es) in
-    ap (λ ys. get_or ys k 0) (shows_more xs es e) ∙ erratum_over (shows xs es) e k h'
+-- what is shown, gathered patch by patch from the oldest on
+pub shows_folded : (xs : List ℕ) (ps : List Patch) (k : ℕ) → k < length xs
+    → get_or (shows xs (map erratum_of ps)) k 0 ≡ fold (λ shown p. unwrap_or (erratum_at (erratum_of p) k) shown) (get_or xs k 0) ps
+shows_folded xs [] k h = refl
+shows_folded xs (p ∷ ps) k h =
+    let e = erratum_of p in
+    let h' : k < length (over xs e.place e.bytes) = omega (arith, length_over xs e.place e.bytes) in
+    shows_folded (over xs e.place e.bytes) ps k h'
+    ∙ ap (λ first. fold (λ shown p. unwrap_or (erratum_at (erratum_of p) k) shown) first ps) (erratum_over xs e k h ∙ default_is (erratum_at e k) (get_or xs k 0))
 
 default_twice : (o p : Option ℕ) (d : ℕ) → or_default o (or_default p d) ≡ or_default (or_else o p) d
 default_twice (Some b) p d = refl

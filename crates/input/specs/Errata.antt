@@ -1,5 +1,5 @@
 -- The errata of a bench: how calls change them, and what they make of a list of bytes.
-use Rattle.std.specs.Prelude.{◌≡◌, ℕ, ◌+◌, ◌-◌, ◌<◌, Bool, cond, ◌&&◌, ◌||◌, List, [], ◌∷◌, ◌++◌, length, take, is_ok, Some, None, Ok, Err, Option, Result, ◌==◌, nat_le, nat_lt, slice_index, slice_set, refl}
+use Rattle.std.specs.Prelude.{◌≡◌, ℕ, ◌+◌, ◌-◌, ◌<◌, Bool, true, false, cond, ◌&&◌, ◌||◌, List, [], ◌∷◌, ◌++◌, length, take, is_ok, Some, None, Ok, Err, Option, Result, ◌==◌, nat_le, nat_lt, slice_index, slice_set, refl}
 use Rattle.std.proofs.Common.{◌∙◌, length-set}
 use Rattle.input.specs.declared.refusal.Refusal.{Refusal}
 use Rattle.input.specs.declared.refusal.Refusal.TheVariants.{PatchLength, PatchPlace, PatchesFull, NoPatch}
@@ -12,10 +12,14 @@ pub record Erratum : Type 0 where
 
 -- ---- how calls are answered, and what they make of the errata (oldest first)
 
+-- whether a patch of these bytes is refused: there are none, or more than 8
+abbrev pub unfit : List ℕ → Bool
+unfit bytes = length bytes == 0 || nat_lt 8 (length bytes)
+
 -- the answer to a patch of bytes at a place, on a list of n bytes under these errata
 abbrev pub patch_answer : (n : ℕ) → List Erratum → (place : ℕ) → (bytes : List ℕ) → Result (Unit {0}) Refusal
 patch_answer n errata place bytes =
-    cond (length bytes == 0 || nat_lt 8 (length bytes)) (Err PatchLength)
+    cond (unfit bytes) (Err PatchLength)
     (cond (nat_lt n (place + length bytes)) (Err PatchPlace)
     (cond (nat_le 32 (length errata)) (Err PatchesFull) (Ok tt)))
 
@@ -54,12 +58,14 @@ length_shows list (e ∷ errata) = length_shows (over list e.place e.bytes) erra
 
 -- ---- one entry of the patch table
 
-abbrev pub blank : Erratum
-blank = record { place = 0; bytes = [] }
-
 -- the erratum that an entry holds
 abbrev pub erratum_of : Patch → Erratum
-erratum_of p = record { place = p.place; bytes = take p.len p.bytes }
+erratum_of p = record { place = p.place; bytes = p.bytes.items }
+
+-- bytes that an entry can hold are held; others are refused
+abbrev pub Holds : (place : ℕ) → (bytes : List ℕ) → Result Patch Refusal → Type 0
+Holds place bytes (Ok p) = (unfit bytes ≡ false) × (erratum_of p ≡ record { place = place; bytes = bytes })
+Holds place bytes (Err e) = (unfit bytes ≡ true) × (e ≡ PatchLength)
 
 -- whether an erratum covers a place
 abbrev pub covers : Erratum → ℕ → Bool

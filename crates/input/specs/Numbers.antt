@@ -1,5 +1,6 @@
 -- The numbers of refusals and answers, and the answer that a slice gets.
 use Rattle.std.specs.Prelude.{ℕ, cond, Ok, Err, Result, nat_le}
+use Rattle.answers.specs.Listed.{listed_of}
 use Rattle.input.specs.declared.refusal.Refusal.{Refusal}
 use Rattle.input.specs.declared.refusal.Refusal.TheVariants.{SliceLength, PatchLength, PatchPlace, PatchesFull, NoPatch}
 use Rattle.input.specs.Bytes.{longest}
@@ -13,8 +14,7 @@ refusal_number NoPatch = 33
 
 -- 0 where the call was accepted
 abbrev pub answer_number : Result (Unit {0}) Refusal → ℕ
-answer_number (Ok u) = 0
-answer_number (Err r) = refusal_number r
+answer_number = listed_of (λ _. 0) refusal_number
 
 -- whether a slice of n bytes can be shown
 abbrev pub slice_answer : ℕ → Result (Unit {0}) Refusal

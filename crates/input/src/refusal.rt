@@ -1,5 +1,7 @@
 ghost use Rattle.std.specs.Prelude.{◌≡◌};
-ghost use Rattle.input.specs.Numbers.{refusal_number, answer_number};
+ghost use Rattle.input.specs.Numbers.{refusal_number};
+
+use answers::Numbered;
 
 /// Why an input or a bench refused a call.
 #[derive(Clone, Copy, PartialEq, Eq, Debug)]
@@ -16,11 +18,10 @@ pub enum Refusal {
     NoPatch,
 }
 
-impl Refusal {
-    /// The listed number of the refusal.
-    pub fn number(self) -> u8
-        ensures { result ≡ refusal_number self }
-    {
+impl Numbered for Refusal {
+    ghost listed = { refusal_number };
+
+    fn number(&self) -> u8 {
         match self {
             Refusal::SliceLength => 20,
             Refusal::PatchLength => 30,
@@ -28,15 +29,5 @@ impl Refusal {
             Refusal::PatchesFull => 32,
             Refusal::NoPatch => 33,
         }
-    }
-}
-
-/// The listed number of an answer: 0 where the call was accepted.
-pub fn answer_number(answer: Result<(), Refusal>) -> u8
-    ensures { result ≡ answer_number answer }
-{
-    match answer {
-        Ok(()) => 0,
-        Err(refusal) => refusal.number(),
     }
 }

@@ -46,10 +46,6 @@ impl<'a> Input for SliceInput<'a> {
     }
 
     fn byte(&self, place: usize) -> Option<u8> {
-        if place < self.bytes.len() {
-            Some(self.bytes[place])
-        } else {
-            None
-        }
+        self.bytes.get(place).copied()
     }
 }

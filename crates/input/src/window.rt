@@ -44,38 +44,37 @@ impl Window {
     }
 }
 
-/// An input that shows one window of another, or the empty list if its ends are out of order or past the end.
+/// An input that shows one window of another, or the empty list where the window is not in it.
 #[derive(Clone, Copy, Drop)]
 pub struct WindowInput<I> {
     below: I,
-    left: usize,
-    right: usize,
+    window: Window,
 }
 
 impl<I: Input> WindowInput<I> {
-    pub fn new(below: I, left: usize, right: usize) -> WindowInput<I>
-        ensures { result ≡ record { below = below; left = left; right = right } }
+    pub fn new(below: I, window: Window) -> WindowInput<I>
+        ensures { result ≡ record { below = below; window = window } }
     {
-        WindowInput { below, left, right }
+        WindowInput { below, window }
     }
 }
 
 impl<I: Input> Input for WindowInput<I> {
-    ghost shown = { λ s. window_shown (I.Input.shown s.below) s.left s.right };
+    ghost shown = { λ s. window_shown (I.Input.shown s.below) s.window.left s.window.right };
 
     fn len(&self) -> usize {
-        if self.left <= self.right && self.right <= self.below.len() {
-            self.right - self.left
+        if self.window.is_in(self.below.len()) {
+            self.window.len()
         } else {
             0
         }
     }
 
     fn byte(&self, place: usize) -> Option<u8> {
-        if place >= self.len() {
-            return None;
+        if place < self.len() {
+            self.below.byte(self.window.left + place)
+        } else {
+            None
         }
-        let shown = self.below.byte(self.left + place)?;
-        Some(shown)
     }
 }

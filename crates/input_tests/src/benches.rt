@@ -1,5 +1,6 @@
+use answers::Numbered;
 use input::{Bench, Input, Refusal, SliceInput};
-use replay::{Answer, Call, replay};
+use replay::{Call, replay};
 
 fn front<I: Input>(input: &I) -> [Option<u8>; 4] {
     [input.byte(0), input.byte(1), input.byte(2), input.byte(3)]
@@ -60,8 +61,10 @@ fn the_numbers(rt: HostRuntime) {
     assert_eq!(rt; Refusal::PatchPlace.number(), 31);
     assert_eq!(rt; Refusal::PatchesFull.number(), 32);
     assert_eq!(rt; Refusal::NoPatch.number(), 33);
-    assert_eq!(rt; Answer::Accepted.number(), 0);
-    assert_eq!(rt; Answer::Refused(Refusal::NoPatch).number(), 33);
+    let accepted: Result<(), Refusal> = Ok(());
+    assert_eq!(rt; accepted.number(), 0);
+    let refused: Result<(), Refusal> = Err(Refusal::NoPatch);
+    assert_eq!(rt; refused.number(), 33);
 }
 
 #[test]
@@ -82,13 +85,13 @@ fn calls_are_replayed(rt: HostRuntime) {
         },
         Call::Undo,
     ];
-    let mut answers = [Answer::Accepted; 6];
+    let mut answers = [Ok(()); 6];
     let bench = replay(SliceInput::new(b"abc"), &calls, &mut answers);
     assert_eq!(rt; front(&bench), [Some(b'a'), Some(b'x'), Some(b'y'), None]);
-    assert_eq!(rt; answers[0], Answer::Refused(Refusal::NoPatch));
-    assert_eq!(rt; answers[1], Answer::Accepted);
-    assert_eq!(rt; answers[2], Answer::Refused(Refusal::PatchPlace));
-    assert_eq!(rt; answers[4], Answer::Accepted);
+    assert_eq!(rt; answers[0], Err(Refusal::NoPatch));
+    assert_eq!(rt; answers[1], Ok(()));
+    assert_eq!(rt; answers[2], Err(Refusal::PatchPlace));
+    assert_eq!(rt; answers[4], Ok(()));
 }
 
 #[test]
@@ -100,8 +103,8 @@ fn answers_past_the_table_are_dropped(rt: HostRuntime) {
             bytes: b"x",
         },
     ];
-    let mut answers = [Answer::Accepted; 1];
+    let mut answers = [Ok(()); 1];
     let bench = replay(SliceInput::new(b"abc"), &calls, &mut answers);
     assert_eq!(rt; bench.byte(0), Some(b'x'));
-    assert_eq!(rt; answers[0], Answer::Refused(Refusal::NoPatch));
+    assert_eq!(rt; answers[0], Err(Refusal::NoPatch));
 }

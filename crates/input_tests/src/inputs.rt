@@ -1,4 +1,5 @@
-use input::{Input, Refusal, SliceInput, WindowInput};
+use answers::Numbered;
+use input::{Input, Refusal, SliceInput, Window, WindowInput};
 use std::test::Fail;
 
 #[test]
@@ -36,7 +37,7 @@ fn a_slice_too_long(rt: HostRuntime) -> Result<(), Fail> {
 }
 
 fn shown(left: usize, right: usize) -> (usize, Option<u8>, Option<u8>) {
-    let window = WindowInput::new(SliceInput::new(b"abcd"), left, right);
+    let window = WindowInput::new(SliceInput::new(b"abcd"), Window { left, right });
     (window.len(), window.byte(0), window.byte(1))
 }
 
@@ -55,8 +56,9 @@ fn windows(rt: HostRuntime) {
 
 #[test]
 fn a_window_of_a_lent_window(rt: HostRuntime) {
-    let outer = WindowInput::new(SliceInput::new(b"abcdef"), 1, 5);
-    let inner = WindowInput::new(&outer, 1, 3);
+    let middle = Window { left: 1, right: 5 };
+    let outer = WindowInput::new(SliceInput::new(b"abcdef"), middle);
+    let inner = WindowInput::new(&outer, Window { left: 1, right: 3 });
     assert_eq!(rt; inner.len(), 2);
     assert_eq!(rt; inner.byte(0), Some(b'c'));
     assert_eq!(rt; outer.byte(0), Some(b'b'));

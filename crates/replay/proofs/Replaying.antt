@@ -1,8 +1,8 @@
 -- While a list of calls is met: what the calls that are left make of the bench is what all make of a new one.
-use Rattle.std.proofs.Common.{◌≡◌, ℕ, ◌+◌, ◌<◌, ◌≤◌, List, [], ◌∷◌, ◌++◌, length, get_or, take, drop, set, sym, refl, ap, ◌∙◌, append_assoc, arith, take-append-drop}
-use Rattle.std.proofs.lemmas.List.{at_drop_more, at_drop_all, drop_more, drop_all, take_all, take_more_set, drop-set-lt}
+use Rattle.std.proofs.Common.{◌≡◌, ℕ, zero, suc, ◌+◌, ◌<◌, ◌≤◌, List, [], ◌∷◌, ◌++◌, length, get_or, take, drop, set, sym, refl, ap, ◌∙◌, arith, take-append-drop}
+use Rattle.std.proofs.lemmas.List.{at_drop_more, at_drop_all}
 use Rattle.input.specs.Errata.{Erratum}
-use Rattle.replay.specs.declared.Answer.{Answer}
+use Rattle.replay.specs.Calls.{Answer}
 use Rattle.replay.specs.declared.Call.{Call}
 use Rattle.replay.specs.Calls.{errata_then, answered, errata_from, answers_from, errata_after, answers_after, written}
 
@@ -11,22 +11,13 @@ unfolding written
 written_none [] = refl
 written_none (x ∷ xs) = refl
 
--- one answer more, where it fits and where it does not
-written_one : {X : Type 0} (x : X) (xs ys : List X) (i : ℕ) → i < length ys → take i ys ++ written (x ∷ xs) (drop i ys) ≡ take (i + 1) (set ys i x) ++ written xs (drop (i + 1) (set ys i x))
+-- one answer more; where the table ends before it, nothing is written
+written_next : {X : Type 0} (x : X) (xs ys : List X) (i : ℕ) → take i ys ++ written (x ∷ xs) (drop i ys) ≡ take (suc i) (set ys i x) ++ written xs (drop (suc i) (set ys i x))
 unfolding written
-written_one x xs ys i h =
-    ap (λ z. take i ys ++ written (x ∷ xs) z) (drop_more ys i x h)
-    ∙ sym (append_assoc (take i ys) (x ∷ []) (written xs (drop (i + 1) ys)))
-    ∙ ap (λ z. z ++ written xs (drop (i + 1) ys)) (sym (take_more_set ys i x h))
-    ∙ ap (λ z. take (i + 1) (set ys i x) ++ written xs z) (sym (drop-set-lt (i + 1) ys i x (omega arith)))
-
-written_past : {X : Type 0} (x : X) (xs ys : List X) (i : ℕ) → length ys ≤ i → take i ys ++ written (x ∷ xs) (drop i ys) ≡ take (i + 1) ys ++ written xs (drop (i + 1) ys)
-written_past x xs ys i h =
-    let p : drop i ys ≡ [] = drop_all i ys h in
-    let q : drop (i + 1) ys ≡ [] = drop_all (i + 1) ys (omega arith) in
-    let s : take i ys ≡ take (i + 1) ys = take_all i ys h ∙ sym (take_all (i + 1) ys (omega arith)) in
-    ap (λ z. take i ys ++ written (x ∷ xs) z) p ∙ ap (λ z. take i ys ++ z) (written_none (x ∷ xs) ∙ sym (written_none xs))
-    ∙ ap (λ z. z ++ written xs []) s ∙ ap (λ z. take (i + 1) ys ++ written xs z) (sym q)
+written_next x xs [] zero = sym (written_none xs)
+written_next x xs [] (suc i) = sym (written_none xs)
+written_next x xs (y ∷ ys) zero = refl
+written_next x xs (y ∷ ys) (suc i) = ap (λ zs. y ∷ zs) (written_next x xs ys i)
 
 module _ (n : ℕ) (cs : List Call) (ys₀ : List Answer) where
   -- after i calls: what the rest comes to is what all come to
@@ -63,14 +54,16 @@ module _ (n : ℕ) (cs : List Call) (ys₀ : List Answer) where
     abbrev rest : List Answer
     rest = answers_from n es' (drop (i + 1) cs)
 
-    goes_on : take i ys ++ written (x ∷ rest) (drop i ys) ≡ take (i + 1) ys' ++ written rest (drop (i + 1) ys') → Going (i + 1) es' ys'
-    goes_on w = record { errata = errata_next; answers = sym w ∙ ap (λ z. take i ys ++ written z (drop i ys)) (sym rest_next) ∙ going.answers }
-
-    pub goes_on_written : i < length ys → ys' ≡ set ys i x → Going (i + 1) es' ys'
-    goes_on_written k p = goes_on (written_one x rest ys i k ∙ ap (λ z. take (i + 1) z ++ written rest (drop (i + 1) z)) (sym p))
-
-    pub goes_on_past : length ys ≤ i → ys' ≡ ys → Going (i + 1) es' ys'
-    goes_on_past k p = goes_on (written_past x rest ys i k ∙ ap (λ z. take (i + 1) z ++ written rest (drop (i + 1) z)) (sym p))
+    pub goes_on : ys' ≡ set ys i x → Going (i + 1) es' ys'
+    goes_on p =
+        let next : suc i ≡ i + 1 = omega arith in record {
+          errata = errata_next;
+          answers = ap (λ zs. take (i + 1) zs ++ written rest (drop (i + 1) zs)) p
+              ∙ ap (λ k. take k (set ys i x) ++ written rest (drop k (set ys i x))) (sym next)
+              ∙ sym (written_next x rest ys i)
+              ∙ ap (λ z. take i ys ++ written z (drop i ys)) (sym rest_next)
+              ∙ going.answers;
+        }
 
   -- all calls are met
   pub record Done (es : List Erratum) (ys : List Answer) : Type 0 where

@@ -1,27 +1,19 @@
 -- What a list of calls makes of a bench, and how each call is answered.
-use Rattle.std.specs.Prelude.{ℕ, List, [], ◌∷◌, Ok, Err, Result}
+use Rattle.std.specs.Prelude.{ℕ, List, [], ◌∷◌, Result}
 use Rattle.input.specs.Errata.{Erratum, patch_answer, patched, undo_answer, undone}
-use Rattle.input.specs.Numbers.{refusal_number}
 use Rattle.input.specs.declared.refusal.Refusal.{Refusal}
-use Rattle.replay.specs.declared.Answer.{Answer}
-use Rattle.replay.specs.declared.Answer.TheVariants.{Accepted, Refused}
 use Rattle.replay.specs.declared.Call.{Call}
 use Rattle.replay.specs.declared.Call.TheVariants.{Patch, Undo}
 
--- the listed number of an answer
-abbrev pub answer_number : Answer → ℕ
-answer_number Accepted = 0
-answer_number (Refused r) = refusal_number r
-
-abbrev pub answer_of : Result (Unit {0}) Refusal → Answer
-answer_of (Ok u) = Accepted
-answer_of (Err r) = Refused r
-
 -- ---- one call, on a list of n bytes under some errata
 
+-- what a call comes to
+abbrev pub Answer : Type 0
+Answer = Result (Unit {0}) Refusal
+
 abbrev pub answered : ℕ → List Erratum → Call → Answer
-answered n errata (Patch place bytes) = answer_of (patch_answer n errata place bytes.now)
-answered n errata Undo = answer_of (undo_answer errata)
+answered n errata (Patch place bytes) = patch_answer n errata place bytes.now
+answered n errata Undo = undo_answer errata
 
 abbrev pub errata_then : ℕ → List Erratum → Call → List Erratum
 errata_then n errata (Patch place bytes) = patched n errata place bytes.now

@@ -108,11 +108,15 @@ module _ (script left : List ℕ) (n : ℕ) (h : 0 < length left) (going : Going
   goes_on off = goes_on_by next refl off
 
   -- at the line `end`
-  pub ends : bytes_eq line (codes "end") ≡ true → Some (record { text = before script left; lines = n; rest = lines_of next }) ≡ block_of (lines_of script)
+  pub ends : (len count : ℕ) (rest : List ℕ) → len ≡ length script - length left → count ≡ n → rest ≡ next
+      → bytes_eq line (codes "end") ≡ true → Some (record { text = take len script; lines = count; rest = lines_of rest }) ≡ block_of (lines_of script)
   unfolding block_of
-  ends on =
+  ends len count rest is_len is_count is_next on =
       let at : block_of (lines_of left) ≡ Some (record { text = []; lines = 0; rest = lines_of next }) = ap block_of (first_line left h) ∙ (simp on) in
-      ap (λ z. Some (record { text = z; lines = n; rest = lines_of next })) (sym (append-nil (before script left)))
+      ap (λ z. Some (record { text = take z script; lines = count; rest = lines_of rest })) is_len
+      ∙ ap (λ z. Some (record { text = before script left; lines = z; rest = lines_of rest })) is_count
+      ∙ ap (λ z. Some (record { text = before script left; lines = n; rest = lines_of z })) is_next
+      ∙ ap (λ z. Some (record { text = z; lines = n; rest = lines_of next })) (sym (append-nil (before script left)))
       ∙ ap (λ z. Some (record { text = before script left ++ []; lines = z; rest = lines_of next })) (omega arith)
       ∙ ap (behind (before script left) n) (sym at)
       ∙ going.still

@@ -1,56 +1,38 @@
--- A text cut at a separator, from a place on.
-use Rattle.std.proofs.Common.{◌≡◌, ℕ, ◌+◌, ◌-◌, ◌<◌, ◌≤◌, true, false, eqb, List, [], ◌∷◌, ◌++◌, length, get_or, take, drop, sym, ap, ◌∙◌, append_assoc, append-nil, arith, length-drop}
-use Rattle.std.proofs.lemmas.List.{at_drop_more, at_drop_all, take_all, take_more}
+-- A text cut at a separator, in the words of the library.
+use Rattle.std.proofs.Common.{◌≡◌, ℕ, suc, ◌+◌, ◌<◌, ◌≤◌, true, false, cond, not, eqb, List, [], ◌∷◌, length, drop, sym, refl, ap, ◌∙◌, arith}
+use Rattle.std.specs.List.{position_or_len, before_first, after_first}
 use Rattle.std.proofs.lemmas.Bool.{cond_both}
+use Rattle.std.proofs.lemmas.List.Sums.{take_while-cons}
 use Rattle.script.specs.Pieces.{until, after, trimmed}
 
--- a slice from a place on
-pub from_on : (xs : List ℕ) (i : ℕ) → take (length xs - i) (drop i xs) ≡ drop i xs
-from_on xs i = take_all (length xs - i) (drop i xs) (simp length-drop (omega arith))
+drop_past : (n : ℕ) (b : ℕ) (bs : List ℕ) → drop (1 + n) (b ∷ bs) ≡ drop n bs
+drop_past n b bs =
+    let one_more : 1 + n ≡ suc n = omega arith in
+    ap (λ k. drop k (b ∷ bs)) one_more
 
-module _ (s : ℕ) (xs : List ℕ) (i d : ℕ) where
-  -- at the separator
-  pub until_at : i < length xs → eqb (get_or xs i d) s ≡ true → until s (drop i xs) ≡ []
-  unfolding until
-  until_at h e = at_drop_more (until s) xs i d h ∙ simp e
+pub until_is : (s : ℕ) (xs : List ℕ) → until s xs ≡ before_first (λ b. eqb b s) xs
+unfolding until
+until_is s [] = refl
+until_is s (b ∷ bs) =
+    let step : cond (eqb b s) [] (b ∷ until s bs) ≡ cond (not (eqb b s)) (b ∷ until s bs) [] = elim (eqb b s) as (λ t. cond t [] (b ∷ until s bs) ≡ cond (not t) (b ∷ until s bs) []) [ true ↦ refl | false ↦ refl ] in
+    step ∙ ap (λ z. cond (not (eqb b s)) (b ∷ z) []) (until_is s bs) ∙ sym (take_while-cons (λ x. not (eqb x s)) b bs)
 
-  pub after_at : i < length xs → eqb (get_or xs i d) s ≡ true → after s (drop i xs) ≡ drop (i + 1) xs
-  unfolding after
-  after_at h e = at_drop_more (after s) xs i d h ∙ simp e
+pub after_is : (s : ℕ) (xs : List ℕ) → after s xs ≡ after_first (λ b. eqb b s) xs
+unfolding after
+after_is s [] = refl
+after_is s (b ∷ bs) =
+    let n = position_or_len (λ x. eqb x s) bs in
+    let more : 1 + n + 1 ≡ 1 + (n + 1) = omega arith in
+    let rest : after s bs ≡ drop (1 + n + 1) (b ∷ bs) = after_is s bs ∙ sym (ap (λ k. drop k (b ∷ bs)) more ∙ drop_past (n + 1) b bs) in
+    elim (eqb b s) as (λ t. cond t bs (after s bs) ≡ drop (cond (not t) (1 + n) 0 + 1) (b ∷ bs)) [ true ↦ refl | false ↦ rest ]
 
-  -- before it
-  pub until_on : i < length xs → eqb (get_or xs i d) s ≡ false → take i xs ++ until s (drop i xs) ≡ take (i + 1) xs ++ until s (drop (i + 1) xs)
-  unfolding until
-  until_on h e =
-      ap (λ z. take i xs ++ z) (at_drop_more (until s) xs i d h ∙ simp e)
-      ∙ sym (append_assoc (take i xs) (get_or xs i d ∷ []) (until s (drop (i + 1) xs)))
-      ∙ ap (λ z. z ++ until s (drop (i + 1) xs)) (sym (take_more xs i d h))
-
-  pub after_on : i < length xs → eqb (get_or xs i d) s ≡ false → after s (drop i xs) ≡ after s (drop (i + 1) xs)
-  unfolding after
-  after_on h e = at_drop_more (after s) xs i d h ∙ simp e
-
-  -- past the end
-  pub until_end : length xs ≤ i → take i xs ++ until s (drop i xs) ≡ xs
-  unfolding until
-  until_end h = ap (λ z. take i xs ++ z) (at_drop_all (until s) xs i h) ∙ append-nil (take i xs) ∙ take_all i xs h
-
-  pub after_end : length xs ≤ i → after s (drop i xs) ≡ []
-  unfolding after
-  after_end h = at_drop_all (after s) xs i h
-
-module _ (xs : List ℕ) (i d : ℕ) where
-  pub trimmed_on : i < length xs → eqb (get_or xs i d) 0x20 ≡ true → trimmed (drop i xs) ≡ trimmed (drop (i + 1) xs)
-  unfolding trimmed
-  trimmed_on h e = at_drop_more trimmed xs i d h ∙ simp e
-
-  pub trimmed_at : i < length xs → eqb (get_or xs i d) 0x20 ≡ false → trimmed (drop i xs) ≡ drop i xs
-  unfolding trimmed
-  trimmed_at h e = at_drop_more trimmed xs i d h ∙ (simp e) ∙ sym (at_drop_more (λ z. z) xs i d h)
-
-  pub trimmed_end : length xs ≤ i → trimmed (drop i xs) ≡ []
-  unfolding trimmed
-  trimmed_end h = at_drop_all trimmed xs i h
+pub trimmed_is : (xs : List ℕ) → trimmed xs ≡ drop (position_or_len (λ b. not (eqb b 0x20)) xs) xs
+unfolding trimmed
+trimmed_is [] = refl
+trimmed_is (b ∷ bs) =
+    let n = position_or_len (λ x. not (eqb x 0x20)) bs in
+    let rest : trimmed bs ≡ drop (1 + n) (b ∷ bs) = trimmed_is bs ∙ sym (drop_past n b bs) in
+    elim (eqb b 0x20) as (λ t. cond t (trimmed bs) (b ∷ bs) ≡ drop (cond (not (not t)) (1 + n) 0) (b ∷ bs)) [ true ↦ rest | false ↦ refl ]
 
 after_within : (s : ℕ) (xs : List ℕ) → length (after s xs) ≤ length xs
 unfolding after

@@ -2,3 +2,4 @@ mod Cutting
 mod Counting
 mod Pairs
 mod Blocks
+mod Words

@@ -1,7 +1,8 @@
 -- Digit pairs decoded so far, and what is left.
 use Rattle.std.proofs.Common.{◌≡◌, ℕ, ◌-◌, ◌≤◌, false, eqb, List, [], ◌∷◌, ◌++◌, length, get_or, take, drop, Some, None, Option, sym, refl, ap, append_assoc, arith}
 use Rattle.std.proofs.lemmas.List.{take_all}
-use Rattle.script.specs.Hex.{digit_of, pair_of, consed, hex_bytes}
+use Rattle.digits.specs.Digits.{digit_of, pair_of}
+use Rattle.script.specs.Hex.{consed, hex_bytes}
 
 abbrev pub joined : List ℕ → Option (List ℕ) → Option (List ℕ)
 joined vs (Some ws) = Some (vs ++ ws)

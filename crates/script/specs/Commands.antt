@@ -5,8 +5,6 @@ use Rattle.script.specs.Pieces.{word, after_word}
 use Rattle.script.specs.Numbers.{number_of}
 use Rattle.script.specs.declared.command.Command.{Command}
 use Rattle.script.specs.declared.command.Command.TheVariants as command
-use Rattle.script.specs.declared.command.Keyword.{Keyword}
-use Rattle.script.specs.declared.command.Keyword.TheVariants as keyword
 
 -- a command with its words and numbers, wherever they are kept
 pub data Asked : Type 0 where
@@ -31,10 +29,10 @@ asked command.First = first
 asked command.Second = second
 asked (command.Bytes h) = bytes h.now
 asked (command.File p) = file p.now
-asked (command.Window l r) = window l r
+asked (command.Window w) = window w.left w.right
 asked (command.Patch p h) = patch p h.now
 asked command.Undo = undo
-asked (command.Show l r) = show l r
+asked (command.Show w) = show w.left w.right
 asked command.Text = text
 asked (command.TextHex h) = text_hex h.now
 asked command.Draft = draft
@@ -45,20 +43,24 @@ asks None = None
 
 -- ---- the words of a line
 
--- the first words of the commands
+-- the first word of a command
+pub data Keyword : Type 0 where
+  First Second Bytes File Window Patch Undo Show Text TextHex Draft : Keyword
+
+-- the keyword that a word is
 abbrev pub keyword_of : List ℕ → Option Keyword
 keyword_of w =
-    cond (bytes_eq w (codes "first")) (Some keyword.First)
-    (cond (bytes_eq w (codes "second")) (Some keyword.Second)
-    (cond (bytes_eq w (codes "bytes")) (Some keyword.Bytes)
-    (cond (bytes_eq w (codes "file")) (Some keyword.File)
-    (cond (bytes_eq w (codes "window")) (Some keyword.Window)
-    (cond (bytes_eq w (codes "patch")) (Some keyword.Patch)
-    (cond (bytes_eq w (codes "undo")) (Some keyword.Undo)
-    (cond (bytes_eq w (codes "show")) (Some keyword.Show)
-    (cond (bytes_eq w (codes "text")) (Some keyword.Text)
-    (cond (bytes_eq w (codes "text-hex")) (Some keyword.TextHex)
-    (cond (bytes_eq w (codes "draft")) (Some keyword.Draft) None))))))))))
+    cond (bytes_eq w (codes "first")) (Some First)
+    (cond (bytes_eq w (codes "second")) (Some Second)
+    (cond (bytes_eq w (codes "bytes")) (Some Bytes)
+    (cond (bytes_eq w (codes "file")) (Some File)
+    (cond (bytes_eq w (codes "window")) (Some Window)
+    (cond (bytes_eq w (codes "patch")) (Some Patch)
+    (cond (bytes_eq w (codes "undo")) (Some Undo)
+    (cond (bytes_eq w (codes "show")) (Some Show)
+    (cond (bytes_eq w (codes "text")) (Some Text)
+    (cond (bytes_eq w (codes "text-hex")) (Some TextHex)
+    (cond (bytes_eq w (codes "draft")) (Some Draft) None))))))))))
 
 -- whether no word is left
 abbrev pub none_left : List ℕ → Bool
@@ -86,17 +88,17 @@ with_ends f None = None
 
 -- a keyword, by what follows it
 abbrev pub given : Keyword → List ℕ → Option Asked
-given keyword.First rest = cond (none_left rest) (Some first) None
-given keyword.Second rest = cond (none_left rest) (Some second) None
-given keyword.Bytes rest = Some (bytes rest)
-given keyword.File rest = cond (none_left rest || not (none_left (after_word rest))) None (Some (file (word rest)))
-given keyword.Window rest = with_ends window (two_numbers rest)
-given keyword.Patch rest = with_place (after_word rest) (number_of (word rest))
-given keyword.Undo rest = cond (none_left rest) (Some undo) None
-given keyword.Show rest = with_ends show (two_numbers rest)
-given keyword.Text rest = cond (none_left rest) (Some text) None
-given keyword.TextHex rest = Some (text_hex rest)
-given keyword.Draft rest = cond (none_left rest) (Some draft) None
+given First rest = cond (none_left rest) (Some first) None
+given Second rest = cond (none_left rest) (Some second) None
+given Bytes rest = Some (bytes rest)
+given File rest = cond (none_left rest || not (none_left (after_word rest))) None (Some (file (word rest)))
+given Window rest = with_ends window (two_numbers rest)
+given Patch rest = with_place (after_word rest) (number_of (word rest))
+given Undo rest = cond (none_left rest) (Some undo) None
+given Show rest = with_ends show (two_numbers rest)
+given Text rest = cond (none_left rest) (Some text) None
+given TextHex rest = Some (text_hex rest)
+given Draft rest = cond (none_left rest) (Some draft) None
 
 abbrev pub given_any : Option Keyword → List ℕ → Option Asked
 given_any (Some k) rest = given k rest

@@ -1,23 +1,7 @@
 -- Bytes written as pairs of hexadecimal digits.
-use Rattle.std.specs.Prelude.{ℕ, ◌+◌, ◌-◌, ◌*◌, Bool, cond, ◌&&◌, List, [], ◌∷◌, Some, None, vec_items, Option, Vec, ◌==◌, nat_le}
+use Rattle.std.specs.Prelude.{ℕ, cond, List, [], ◌∷◌, Some, None, vec_items, Option, Vec, ◌==◌}
+use Rattle.digits.specs.Digits.{digit_of, pair_of}
 use Rattle.std.specs.declared.alloc.Global.{Global}
-
-abbrev between : ℕ → ℕ → ℕ → Bool
-between low high b = nat_le low b && nat_le b high
-
--- the value of a digit: 0 to 9, A to F, a to f
-abbrev pub digit_of : ℕ → Option ℕ
-digit_of b =
-    cond (between 48 57 b) (Some (b - 48))
-    (cond (between 65 70 b) (Some (b - 65 + 10))
-    (cond (between 97 102 b) (Some (b - 97 + 10)) None))
-
--- two digits, the high one first
-abbrev pub pair_of : Option ℕ → Option ℕ → Option ℕ
-pair_of (Some h) (Some l) = Some (h * 16 + l)
-pair_of (Some h) None = None
-pair_of None (Some l) = None
-pair_of None None = None
 
 abbrev pub consed : Option ℕ → Option (List ℕ) → Option (List ℕ)
 consed (Some v) (Some vs) = Some (v ∷ vs)

@@ -5,20 +5,13 @@ ghost use Rattle.std.specs.Prelude.{◌≡◌, ◌≤◌, length, Some, None};
 ghost use Rattle.input.specs.Bytes.{byte_at};
 ghost use Rattle.source.specs.Sources.{source_shown};
 
-use input::{Input, SliceInput, WindowInput};
-
-/// The two ends of a window.
-#[derive(Clone, Copy)]
-pub struct Span {
-    pub left: usize,
-    pub right: usize,
-}
+use input::{Input, SliceInput, Window, WindowInput};
 
 /// Bytes that are held, with the window of them that is shown; without one all are.
 #[derive(Drop)]
 pub struct Source {
     bytes: Vec<u8>,
-    window: Option<Span>,
+    window: Option<Window>,
 }
 
 impl Source {
@@ -33,13 +26,12 @@ impl Source {
     }
 
     /// Shows a window of the bytes in place of what was shown.
-    pub fn with_window(self, left: usize, right: usize) -> Source
-        ensures { result ≡ record { bytes = self.bytes; window = Some (record { left = left; right = right }) } }
+    pub fn with_window(self, window: Window) -> Source
+        ensures { result ≡ record { bytes = self.bytes; window = Some window } }
     {
-        let Source { bytes, window: _ } = self;
         Source {
-            bytes,
-            window: Some(Span { left, right }),
+            window: Some(window),
+            ..self
         }
     }
 }
@@ -51,7 +43,7 @@ impl Input for Source {
         let slice = SliceInput::new(self.bytes.as_slice());
         match self.window {
             None => slice.len(),
-            Some(span) => WindowInput::new(slice, span.left, span.right).len(),
+            Some(window) => WindowInput::new(slice, window).len(),
         }
     }
 
@@ -59,7 +51,7 @@ impl Input for Source {
         let slice = SliceInput::new(self.bytes.as_slice());
         match self.window {
             None => slice.byte(place),
-            Some(span) => WindowInput::new(slice, span.left, span.right).byte(place),
+            Some(window) => WindowInput::new(slice, window).byte(place),
         }
     }
 }

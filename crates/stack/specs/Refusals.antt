@@ -1,5 +1,6 @@
 -- The numbers of a stack's refusals.
-use Rattle.std.specs.Prelude.{ℕ, Ok, Err, Result}
+use Rattle.std.specs.Prelude.{ℕ, Result}
+use Rattle.answers.specs.Listed.{listed_of}
 use Rattle.stack.specs.declared.refusal.StackRefusal.{StackRefusal}
 use Rattle.stack.specs.declared.refusal.StackRefusal.TheVariants.{Full, Empty}
 
@@ -10,5 +11,4 @@ refusal_number Empty = 29
 
 -- the number of an answer: 0 if the call was accepted, else that of the refusal
 abbrev pub answer_number : {X : Type 0} → Result X StackRefusal → ℕ
-answer_number (Ok x) = 0
-answer_number (Err e) = refusal_number e
+answer_number = listed_of (λ _. 0) refusal_number

@@ -57,11 +57,7 @@ impl<'a, T: Copy> Stack<'a, T> {
     pub fn top(&self) -> Option<T>
         ensures { result ≡ top_of (held self.now) }
     {
-        if self.len == 0 {
-            return None;
-        }
-        let entries = self.entries();
-        Some(entries[self.len - 1])
+        self.entries().last().copied()
     }
 
     // The slots that are held, the earliest entry first.

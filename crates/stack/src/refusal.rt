@@ -1,6 +1,8 @@
 ghost use Rattle.std.specs.Prelude.{◌≡◌};
 ghost use Rattle.stack.specs.Refusals.{refusal_number};
 
+use answers::Numbered;
+
 /// Why a stack refused a call.
 #[derive(Clone, Copy, PartialEq, Eq, Debug)]
 pub enum StackRefusal {
@@ -10,11 +12,10 @@ pub enum StackRefusal {
     Empty,
 }
 
-impl StackRefusal {
-    /// The number that stands for this refusal in listings.
-    pub fn number(self) -> u8
-        ensures { result ≡ refusal_number self }
-    {
+impl Numbered for StackRefusal {
+    ghost listed = { refusal_number };
+
+    fn number(&self) -> u8 {
         match self {
             StackRefusal::Full => 28,
             StackRefusal::Empty => 29,

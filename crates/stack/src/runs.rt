@@ -21,10 +21,10 @@ impl<'a, T: Copy> Stack<'a, T> {
     {
         match call {
             StackCall::Push(entry) => self.push(entry),
-            StackCall::Pop => match self.pop() {
-                Ok(_) => Ok(()),
-                Err(refusal) => Err(refusal),
-            },
+            StackCall::Pop => {
+                let _ = self.pop()?;
+                Ok(())
+            }
         }
     }
 

@@ -1,31 +1,10 @@
 -- What is decoded so far, and what is left.
-use Rattle.std.proofs.Common.{◌≡◌, ℕ, ◌+◌, ◌-◌, ◌<◌, ◌≤◌, true, false, eqb, ◌&&◌, ◌==◌, List, [], ◌∷◌, length, get_or, take, drop, Some, None, Option, sym, refl, ap, ◌∙◌, arith}
-use Rattle.std.proofs.lemmas.List.{take_all}
+use Rattle.std.proofs.Common.{◌≡◌, ℕ, ◌+◌, ◌<◌, ◌≤◌, true, false, ◌&&◌, ◌==◌, List, [], ◌∷◌, length, get_or, Some, None, Option, is_none, sym, refl, ap, ◌∙◌, arith}
+use Rattle.std.proofs.lemmas.Bool.{false≢true}
 use Rattle.std.proofs.lemmas.Bool.Decides.{nat_tests}
 use Rattle.arena.specs.Bounded.{upto}
 use Rattle.arena.proofs.Bounds.{twice, by_none}
-use Rattle.strings.specs.Decoding.{hex_value, plain, digits, decode, consed, decoded_length, or_empty, bytes_of}
-
--- the bytes past the first n
-abbrev pub past : ℕ → List ℕ → List ℕ
-past n bs = take (length bs - n) (drop n bs)
-
-pub escaped : (bs : List ℕ) → 4 ≤ length bs → get_or bs 0 0 ≡ 0x5C → get_or bs 1 0 ≡ 0x78 → decode bs ≡ consed (digits (hex_value (get_or bs 2 0)) (hex_value (get_or bs 3 0))) (decode (past 4 bs))
-escaped [] h p q = absurd (omega arith)
-escaped (a ∷ []) h p q = absurd (omega arith)
-escaped (a ∷ b ∷ []) h p q = absurd (omega arith)
-escaped (a ∷ b ∷ c ∷ []) h p q = absurd (omega arith)
-escaped (a ∷ b ∷ c ∷ d ∷ bs) h p q = rw (p, q, take_all (length (a ∷ b ∷ c ∷ d ∷ bs) - 4) bs (omega arith)) refl
-
-pub itself_front : (bs : List ℕ) → 1 ≤ length bs → plain (get_or bs 0 0) ≡ true → decode bs ≡ consed (Some (get_or bs 0 0)) (decode (past 1 bs))
-itself_front [] h p = absurd (omega arith)
-itself_front (a ∷ []) h p = rw p refl
-itself_front (a ∷ b ∷ []) h p = rw p refl
-itself_front (a ∷ b ∷ c ∷ []) h p = rw p refl
-itself_front (a ∷ b ∷ c ∷ d ∷ bs) h p =
-    let apart : eqb a 0x5C ≡ false = grind (arith, nat_tests) in
-    let rest = take_all (length (a ∷ b ∷ c ∷ d ∷ bs) - 1) (b ∷ c ∷ d ∷ bs) (omega arith) in
-    rw (p, apart, rest) refl
+use Rattle.strings.specs.Decoding.{plain, decode, consed, decoded_length, or_empty, bytes_of}
 
 none_after_none : (o : Option (List ℕ)) → consed None o ≡ None
 none_after_none (Some vs) = refl
@@ -54,10 +33,6 @@ pub counted_more : (n v : ℕ) (o : Option (List ℕ)) → counted n (consed (So
 counted_more n v (Some vs) = ap Some (omega arith)
 counted_more n v None = refl
 
-pub counted_all : (n : ℕ) (bs : List ℕ) → length bs ≡ 0 → counted n (decode bs) ≡ Some n
-counted_all n [] h = ap Some (omega arith)
-counted_all n (b ∷ bs) h = absurd (omega arith)
-
 -- ---- the bytes, appended one by one
 pub record Going (body rest out entry : List ℕ) : Type 0 where
   pub whole : upto 513 out (bytes_of rest) ≡ upto 513 entry (bytes_of body)
@@ -85,19 +60,13 @@ unfolding bytes_of
 all_there body [] out entry g none = sym (by_none 513 out) ∙ g.whole
 all_there body (b ∷ rest) out entry g none = absurd (g.allowed (none (omega arith)))
 
-pub not_allowed : (body out : List ℕ) → None ≡ decoded_length (decode body) → out ≡ upto 513 out (bytes_of body)
+pub not_allowed : (body out : List ℕ) → is_none (decoded_length (decode body)) ≡ true → out ≡ upto 513 out (bytes_of body)
 unfolding bytes_of
 not_allowed body out h = go (decode body) h
   where
-    go : (o : Option (List ℕ)) → None ≡ decoded_length o → out ≡ upto 513 out (or_empty o)
+    go : (o : Option (List ℕ)) → is_none (decoded_length o) ≡ true → out ≡ upto 513 out (or_empty o)
     go None e = sym (by_none 513 out)
-    go (Some vs) e = absurd (none_not_some e)
-      where
-        none_not_some : {n : ℕ} → None ≡ Some n → ⊥
-        none_not_some h = grind arith
+    go (Some vs) e = absurd (false≢true e)
 
-pub begins : (body out : List ℕ) (n : ℕ) → Some n ≡ decoded_length (decode body) → Going body body out out
-begins body out n h = record { whole = refl; allowed = λ none. some_not_none (h ∙ ap decoded_length none) }
-  where
-    some_not_none : Some n ≡ None → ⊥
-    some_not_none e = grind arith
+pub begins : (body out : List ℕ) → is_none (decoded_length (decode body)) ≡ false → Going body body out out
+begins body out h = record { whole = refl; allowed = λ none. false≢true (sym h ∙ ap (λ o. is_none (decoded_length o)) none) }

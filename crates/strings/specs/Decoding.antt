@@ -1,13 +1,7 @@
 -- What the body of a string, the bytes between its quotes, stands for.
-use Rattle.std.specs.Prelude.{◌≡◌, ℕ, ◌+◌, ◌-◌, ◌*◌, ◌<◌, Bool, cond, not, ◌&&◌, List, [], ◌∷◌, length, Some, None, Option, ◌==◌, nat_le}
+use Rattle.std.specs.Prelude.{◌≡◌, ℕ, ◌<◌, Bool, cond, not, ◌&&◌, List, [], ◌∷◌, length, Some, None, Option, ◌==◌}
 use Rattle.std.specs.Borrow.{Bor}
-
-abbrev pub between : ℕ → ℕ → ℕ → Bool
-between low high b = nat_le low b && nat_le b high
-
--- what a hexadecimal digit, in either case, counts
-abbrev pub hex_value : ℕ → Option ℕ
-hex_value b = cond (between 0x30 0x39 b) (Some (b - 0x30)) (cond (between 0x61 0x66 b) (Some (b - 0x61 + 10)) (cond (between 0x41 0x46 b) (Some (b - 0x41 + 10)) None))
+use Rattle.digits.specs.Digits.{between, digit_of, pair_of}
 
 -- a byte that stands for itself: not a quote (22), not a backslash (5C)
 abbrev pub plain : ℕ → Bool
@@ -15,13 +9,6 @@ plain b = between 0x20 0x7E b && not (b == 0x22) && not (b == 0x5C)
 
 abbrev pub itself : ℕ → Option ℕ
 itself b = cond (plain b) (Some b) None
-
--- two digits, the high one first
-abbrev pub digits : Option ℕ → Option ℕ → Option ℕ
-digits (Some h) (Some l) = Some (h * 16 + l)
-digits (Some h) None = None
-digits None (Some l) = None
-digits None None = None
 
 -- a byte and what follows it, where both are allowed
 abbrev pub consed : Option ℕ → Option (List ℕ) → Option (List ℕ)
@@ -36,7 +23,7 @@ decode [] = Some []
 decode (a ∷ []) = consed (itself a) (Some [])
 decode (a ∷ b ∷ []) = consed (itself a) (decode (b ∷ []))
 decode (a ∷ b ∷ c ∷ []) = consed (itself a) (decode (b ∷ c ∷ []))
-decode (a ∷ b ∷ c ∷ d ∷ bs) = cond (a == 0x5C && b == 0x78) (consed (digits (hex_value c) (hex_value d)) (decode bs)) (consed (itself a) (decode (b ∷ c ∷ d ∷ bs)))
+decode (a ∷ b ∷ c ∷ d ∷ bs) = cond (a == 0x5C && b == 0x78) (consed (pair_of (digit_of c) (digit_of d)) (decode bs)) (consed (itself a) (decode (b ∷ c ∷ d ∷ bs)))
 
 abbrev pub decoded_length : Option (List ℕ) → Option ℕ
 decoded_length (Some vs) = Some (length vs)

@@ -3,66 +3,52 @@
 
 ghost use Rattle.std.specs.Prelude.{◌≡◌};
 ghost use Rattle.arena.specs.Bounded.{stored, upto};
-ghost use Rattle.strings.specs.Decoding.{hex_value, decode, decoded_length, bytes_of, First};
+ghost use Rattle.strings.specs.Decoding.{plain, decode, decoded_length, bytes_of, First};
 
 use arena::Arena;
+use digits::hex_pair;
 
-// What a hexadecimal digit counts.
-fn hex(b: u8) -> Option<u8>
-    ensures { result ≡ hex_value b }
+// Whether a byte of a body stands for itself.
+fn is_plain(b: u8) -> bool
+    ensures { result ≡ plain b }
 {
-    match b {
-        b'0'..=b'9' => Some(b - b'0'),
-        b'a'..=b'f' => Some(b - b'a' + 10),
-        b'A'..=b'F' => Some(b - b'A' + 10),
-        _ => None,
-    }
+    matches!(b, b' '..=b'~') && b != b'"' && b != b'\\'
 }
 
 // The byte that the front of a body stands for, and the body after it; none where the front is not allowed, or nothing is left.
+#[tactic(auto, using(crate::proofs::Rests::refused_front, std::proofs::lemmas::Bool::Decides::nat_tests))]
 fn first(body: &[u8]) -> Option<(u8, &[u8])>
     ensures { First body.now result }
 {
     match body {
-        [b'\\', b'x', high, low, rest @ ..] => {
-            let (Some(h), Some(l)) = (hex(*high), hex(*low)) else {
-                return None;
-            };
-            Some((h * 16 + l, rest))
-        }
-        [b, rest @ ..] => {
-            if *b < 0x20 || *b > 0x7e || *b == b'"' || *b == b'\\' {
-                return None;
-            }
-            Some((*b, rest))
-        }
-        [] => None,
+        [b'\\', b'x', high, low, rest @ ..] => Some((hex_pair(*high, *low)?, rest)),
+        [b, rest @ ..] if is_plain(*b) => Some((*b, rest)),
+        _ => None,
     }
 }
 
-// How many bytes a string's body stands for, or none where the body is not allowed.
+/// How many bytes a string's body stands for, or none where the body is not allowed.
+#[tactic(auto, using(crate::proofs::Rests::counted_none, crate::proofs::Rests::counted_more))]
 pub fn decoded_len(body: &[u8]) -> Option<usize>
     ensures { result ≡ decoded_length (decode body.now) }
 {
     let mut n = 0;
     let mut rest = body;
     while !rest.is_empty() {
-        let Some((_, more)) = first(rest) else {
-            return None;
-        };
+        (_, rest) = first(rest)?;
         n += 1;
-        rest = more;
     }
     Some(n)
 }
 
-// Appends the bytes that a string's body stands for, as far as there is room; none for a body that is not allowed.
+/// Appends the bytes that a string's body stands for, as far as there is room; none for a body that is not allowed.
+#[tactic(auto, using(crate::proofs::Rests::not_allowed, crate::proofs::Rests::begins, crate::proofs::Rests::goes_on, crate::proofs::Rests::all_there))]
 pub fn decode_into(body: &[u8], out: &mut Arena<u8, 513>)
     ensures { stored out.new ≡ upto 513 (stored out.old) (bytes_of body.now) }
 {
-    let Some(_) = decoded_len(body) else {
+    if decoded_len(body).is_none() {
         return;
-    };
+    }
     let mut rest = body;
     while let Some((b, more)) = first(rest) {
         out.put(b);

@@ -4,21 +4,18 @@
 mod session;
 mod show;
 
-use script::piece::cut_line;
-use session::Session;
+use script::piece::Lines;
+use session::{Fault, Session};
 use std::io;
 use std::io::{BufWriter, Read, Write};
 
 fn run<W: Write>(rt: &HostRuntime, script: &[u8], out: &mut W) -> io::Result<()> {
     let mut session = Session::new(rt.alloc());
-    let mut rest = script;
-    let mut number: u64 = 0;
-    while !rest.is_empty() {
-        let cut = cut_line(rest);
-        rest = cut.rest;
-        number = number.saturating_add(1);
-        if !session.answer(rt, cut.piece, out)? {
-            writeln!(out, "line {number}: not understood")?;
+    for (number, line) in (1u64..).zip(Lines::new(script)) {
+        match session.answer(rt, line.piece, out) {
+            Ok(()) => {}
+            Err(Fault::NotUnderstood) => writeln!(out, "line {number}: not understood")?,
+            Err(Fault::Io(error)) => return Err(error),
         }
     }
     Ok(())

@@ -2,9 +2,8 @@ use Rattle.std.proofs.Common.{length, refl, ap, ◌∙◌}
 use Rattle.input.specs.Benches.{errata}
 use Rattle.input.specs.Errata.{shows}
 use Rattle.replay.specs.Calls.{errata_after, answers_after, written}
-use Rattle.replay.proofs.Replaying.{begins, goes_on_written, goes_on_past, ends}
+use Rattle.replay.proofs.Replaying.{begins, goes_on, ends}
 use Rattle.replay.proofs.replay.Goals as goal
-use Rattle.replay.proofs.replay.Goals.{then-i-answers, else-i-answers}
 
 pub loop-i-init : goal.loop-i-init
 loop-i-init g c = (refl, begins _ _ _ _ c.new-bench.ensures.errata)
@@ -14,10 +13,7 @@ loop-i-preserved g c =
     let same = ap (λ z. length (g.I.Input.shown z).bytes) c.loop-i.invariant.0 in
     let met = c.meet-met.ensures in (
       met.below ∙ c.loop-i.invariant.0,
-      elim c.if-i-answers.branch [
-        | then-i-answers w ↦ goes_on_written _ _ _ _ _ _ _ _ _ _ _ same c.loop-i-test.true c.loop-i.invariant.1 met.errata met.answer w.if-i-answers.true w.answers-is
-        | else-i-answers w ↦ goes_on_past _ _ _ _ _ _ _ _ _ _ _ same c.loop-i-test.true c.loop-i.invariant.1 met.errata met.answer w.if-i-answers.false w.answers-is
-      ],
+      goes_on _ _ _ _ _ _ _ _ _ _ _ same c.loop-i-test.true c.loop-i.invariant.1 met.errata met.answer c.write_at.ensures,
     )
 
 pub returns : goal.returns

@@ -1,9 +1,11 @@
-use Rattle.std.proofs.Common.{◌+◌, ◌≤◌, length}
+use Rattle.std.proofs.Common.{◌≡◌, ◌-◌, length}
+use Rattle.std.specs.Iterator.Adapters.{enumerate_source, enumerate_count}
 use Rattle.script.proofs.Blocks.{Going}
 use Rattle.script.proofs.block.cut_block.Given as goal
 
-abbrev pub invariant-loop-left : goal.invariant-loop-left
-invariant-loop-left l = Going l.script l.left l.lines × (l.lines + length l.left ≤ length l.script)
-
-abbrev pub decreases-loop-left : goal.decreases-loop-left
-decreases-loop-left l = length l.left
+abbrev pub invariant-loop-count : goal.invariant-loop-count
+invariant-loop-count l =
+    (goal.iterator-loop-count).can_next l.count-iterator ×
+    (goal.iterator-loop-count).is_finite l.count-iterator ×
+    (l.len ≡ length l.script - length (enumerate_source l.count-iterator).rest.now) ×
+    Going l.script (enumerate_source l.count-iterator).rest.now (enumerate_count l.count-iterator)

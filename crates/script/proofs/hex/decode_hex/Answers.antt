@@ -1,11 +1,9 @@
 use Rattle.std.proofs.Common.{◌≡◌, ◌≤◌, false, eqb, length, get_or, Some, None, vec_items, sym, ap, ◌∙◌, append-nil, arith, rules}
 use Rattle.std.proofs.lemmas.Bool.Decides.{nat_tests}
-use Rattle.script.specs.Hex.{hex_bytes, consed, pair_of, digit_of}
-use Rattle.script.proofs.Pairs.{joined, joined_none, joined_more, past, space_front, pair_front, lone_front, nothing_left, consed_none}
+use Rattle.digits.specs.Digits.{digit_of, pair_of}
+use Rattle.script.specs.Hex.{hex_bytes, consed}
+use Rattle.script.proofs.Pairs.{joined, joined_more, past, space_front, pair_front, lone_front, nothing_left, consed_none}
 use Rattle.script.proofs.hex.decode_hex.Goals as goal
-
-pub loop-left-init : goal.loop-left-init
-loop-left-init c = joined_none _ ∙ ap (λ l. joined l (hex_bytes c.args.text.now)) (sym c.new-out.ensures.items)
 
 pub returns-in_default-hex_pair : goal.returns-in_default-hex_pair
 returns-in_default-hex_pair c =

@@ -1,32 +1,29 @@
-use Rattle.std.proofs.Common.{◌≡◌, ◌+◌, true, false, eqb, ◌++◌, get_or, take, sym, ap, ◌∙◌, append-nil, arith}
+use Rattle.std.proofs.Common.{◌≡◌, ◌+◌, ◌-◌, ◌≤◌, eqb, length, take, drop, sym, ap, ◌∙◌, arith, rules, tests}
+use Rattle.std.specs.List.{position_or_len}
 use Rattle.std.proofs.lemmas.Bool.Decides.{nat_tests}
-use Rattle.script.proofs.Cutting.{from_on, until_at, after_at, until_on, after_on, until_end, after_end}
+use Rattle.std.proofs.lemmas.List.{take_all, drop_all, length-drop}
+use Rattle.std.proofs.lemmas.Iterator.{YieldsList-from_slice}
+use Rattle.std.proofs.lemmas.Iterator.Search.{position_from_yields_List}
+use Rattle.script.proofs.Cutting.{until_is, after_is}
 use Rattle.script.proofs.piece.cut_at.Goals as goal
 
-pub returns-then-text-i : goal.returns-then-text-i
-returns-then-text-i c =
-    let xs = c.args.text.now in
-    let i = c.loop-i.i in
-    let at : eqb (get_or xs i 0) c.args.separator ≡ true = grind (arith, nat_tests) in
+pub returns-in-Some : goal.returns-in-Some
+returns-in-Some c =
+    let text = c.args.text.now in
+    let found = position_from_yields_List (λ b. eqb b c.args.separator) _ _ c.position.result c.position.ensures.ran (YieldsList-from_slice text cc) (λ x b q k. search (rules, tests)) in
+    let place : c.in-Some.at ≡ position_or_len (λ b. eqb b c.args.separator) text = grind (arith, nat_tests) in
     record {
-      piece = ap (λ n. take n xs) (omega arith) ∙ sym (append-nil (take i xs)) ∙ ap (λ z. take i xs ++ z) (sym (until_at c.args.separator xs i 0 c.loop-i-test.true at)) ∙ c.loop-i.invariant.0;
-      rest = from_on xs (i + 1) ∙ sym (after_at c.args.separator xs i 0 c.loop-i-test.true at) ∙ c.loop-i.invariant.1;
+      piece = ap (λ n. take n text) place ∙ sym (until_is c.args.separator text);
+      rest = take_all (length text - (c.in-Some.at + 1)) (drop (c.in-Some.at + 1) text) (simp length-drop (omega arith))
+          ∙ ap (λ n. drop (n + 1) text) place ∙ sym (after_is c.args.separator text);
     }
 
-pub loop-i-preserved : goal.loop-i-preserved
-loop-i-preserved c =
-    let xs = c.args.text.now in
-    let i = c.loop-i.i in
-    let off : eqb (get_or xs i 0) c.args.separator ≡ false = grind (arith, nat_tests) in (
-      sym (until_on c.args.separator xs i 0 c.loop-i-test.true off) ∙ c.loop-i.invariant.0,
-      sym (after_on c.args.separator xs i 0 c.loop-i-test.true off) ∙ c.loop-i.invariant.1,
-    )
-
-pub returns : goal.returns
-returns c =
-    let xs = c.args.text.now in
-    let i = c.loop-i.i in
+pub returns-in-None : goal.returns-in-None
+returns-in-None c =
+    let text = c.args.text.now in
+    let found = position_from_yields_List (λ b. eqb b c.args.separator) _ _ c.position.result c.position.ensures.ran (YieldsList-from_slice text cc) (λ x b q k. search (rules, tests)) in
+    let place : length text ≤ position_or_len (λ b. eqb b c.args.separator) text = grind (arith, nat_tests) in
     record {
-      piece = sym (until_end c.args.separator xs i 0 c.loop-i-test.false) ∙ c.loop-i.invariant.0;
-      rest = sym (after_end c.args.separator xs i 0 c.loop-i-test.false) ∙ c.loop-i.invariant.1;
+      piece = sym (take_all _ text place) ∙ sym (until_is c.args.separator text);
+      rest = sym (drop_all _ text (omega arith)) ∙ sym (after_is c.args.separator text);
     }

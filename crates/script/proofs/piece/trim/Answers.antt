@@ -1,21 +1,18 @@
-use Rattle.std.proofs.Common.{◌≡◌, true, false, eqb, get_or, sym, ◌∙◌, arith}
+use Rattle.std.proofs.Common.{◌≡◌, ◌-◌, eqb, not, length, drop, sym, ap, ◌∙◌, arith, rules, tests}
+use Rattle.std.specs.List.{position_or_len}
 use Rattle.std.proofs.lemmas.Bool.Decides.{nat_tests}
-use Rattle.script.proofs.Cutting.{from_on, trimmed_on, trimmed_at, trimmed_end}
+use Rattle.std.proofs.lemmas.List.{take_all, length-drop}
+use Rattle.std.proofs.lemmas.List.Sums.{prefix_len-le-length}
+use Rattle.std.proofs.lemmas.Iterator.{YieldsList-from_slice}
+use Rattle.std.proofs.lemmas.Iterator.Search.{position_from_yields_List}
+use Rattle.script.proofs.Cutting.{trimmed_is}
 use Rattle.script.proofs.piece.trim.Goals as goal
 
-pub returns-then-text-i-ne-SPACE : goal.returns-then-text-i-ne-SPACE
-returns-then-text-i-ne-SPACE c =
-    let xs = c.args.text.now in
-    let i = c.loop-i.i in
-    let off : eqb (get_or xs i 0) 0x20 ≡ false = grind (arith, nat_tests) in
-    from_on xs i ∙ sym (trimmed_at xs i 0 c.loop-i-test.true off) ∙ c.loop-i.invariant
-
-pub loop-i-preserved : goal.loop-i-preserved
-loop-i-preserved c =
-    let xs = c.args.text.now in
-    let i = c.loop-i.i in
-    let at : eqb (get_or xs i 0) 0x20 ≡ true = grind (arith, nat_tests) in
-    sym (trimmed_on xs i 0 c.loop-i-test.true at) ∙ c.loop-i.invariant
-
 pub returns : goal.returns
-returns c = sym (trimmed_end c.args.text.now c.loop-i.i 0 c.loop-i-test.false) ∙ c.loop-i.invariant
+returns c =
+    let text = c.args.text.now in
+    let found = position_from_yields_List (λ b. not (eqb b 0x20)) _ _ c.position.result c.position.ensures.ran (YieldsList-from_slice text cc) (λ x b q k. search (rules, tests)) in
+    let within = prefix_len-le-length (λ b. not (not (eqb b 0x20))) text in
+    let place : c.unwrap_or-start.result ≡ position_or_len (λ b. not (eqb b 0x20)) text = grind (arith, nat_tests) in
+    take_all (length text - c.unwrap_or-start.result) (drop c.unwrap_or-start.result text) (simp length-drop (omega arith))
+    ∙ ap (λ n. drop n text) place ∙ sym (trimmed_is text)

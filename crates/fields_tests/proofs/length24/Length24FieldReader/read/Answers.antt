@@ -32,10 +32,14 @@ front bs l r a b c h k m p q s =
 pub returns : goal.returns
 returns g c =
     let bs = (g.I.Input.shown c.args.input.now).bytes in
-    let n = window_length bs c.args.left c.args.right (omega arith) (omega arith) in
+    let w = c.args.window in
+    let ordered : w.left ≤ w.right = grind (arith, nat_tests) in
+    let inside : w.right ≤ length bs = grind (arith, nat_tests) in
+    let long : 3 ≤ w.right - w.left = grind (arith, nat_tests) in
+    let n = window_length bs w.left w.right ordered inside in
     let a = c.in_ok-high.ensures in
     let b = c.in_ok-middle.ensures in
     let d = c.in_ok-low.ensures in
-    let f = front bs c.args.left c.args.right c.in_ok-high.high c.in_ok-middle.middle c.in_ok-low.low (omega arith) (omega arith) (omega arith) a b d in
-    let v : c.from.result * 65536 + c.from-2.result * 256 + c.from-3.result ≡ big_endian (take 3 (window_of bs c.args.left c.args.right)) = omega arith in
+    let f = front bs w.left w.right c.in_ok-high.high c.in_ok-middle.middle c.in_ok-low.low ordered inside long a b d in
+    let v : c.from.result * 65536 + c.from-2.result * 256 + c.from-3.result ≡ big_endian (take 3 (window_of bs w.left w.right)) = omega arith in
     grind (arith, nat_tests)

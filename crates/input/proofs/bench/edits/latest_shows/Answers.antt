@@ -1,5 +1,0 @@
-use Rattle.input.proofs.Writes.{latest_shows}
-use Rattle.input.proofs.bench.edits.latest_shows.Goals as goal
-
-pub returns : goal.returns
-returns c = latest_shows

@@ -1,0 +1,38 @@
+ghost use Rattle.std.specs.Prelude.{◌≡◌};
+ghost use Rattle.input.specs.Errata.{erratum_at, erratum_of, Holds};
+
+use crate::refusal::Refusal;
+use arrayvec::ArrayVec;
+
+/// The most bytes of a patch.
+const LONGEST: usize = 8;
+
+/// An entry of the patch table: some bytes, and the place from which they are shown.
+#[derive(Default, Drop)]
+pub struct Patch {
+    place: usize,
+    bytes: ArrayVec<u8, LONGEST>,
+}
+
+impl Patch {
+    /// The patch of some bytes at a place, if they are as many as an entry can hold.
+    pub fn new(place: usize, bytes: &[u8]) -> Result<Patch, Refusal>
+        ensures { Holds place bytes.now result }
+    {
+        if bytes.is_empty() {
+            return Err(Refusal::PatchLength);
+        }
+        match ArrayVec::try_from(bytes) {
+            Ok(bytes) => Ok(Patch { place, bytes }),
+            Err(_) => Err(Refusal::PatchLength),
+        }
+    }
+
+    /// The byte that it shows at a place, if any.
+    pub fn at(&self, place: usize) -> Option<u8>
+        ensures { result ≡ erratum_at (erratum_of self.now) place }
+    {
+        let from = place.checked_sub(self.place)?;
+        self.bytes.get(from).copied()
+    }
+}
