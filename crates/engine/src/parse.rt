@@ -75,7 +75,7 @@ impl<'a, I: Input, R: FieldReader> Setting<'a, I, R> {
         ensures told { told result nodes.new ≡ meant (R.FieldReader.meaning self.now.readers.now) (grammar_of self.now.grammar.now) (record { budget = budget; frames = length frames.old; nodes = length nodes.old }) rule (window_of (I.Input.shown self.now.input.now).bytes window.left window.right) }
         ensures count { result.nodes ≤ length nodes.new }
     {
-        let view = WindowInput::new(self.input, window.left, window.right);
+        let view = WindowInput::new(self.input, window);
         let setting = Setting {
             grammar: self.grammar,
             readers: self.readers,
