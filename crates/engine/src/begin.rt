@@ -50,10 +50,7 @@ impl<'a> Tables<'a> {
         ensures stack { held self.new.stack ≡ held self.old.stack }
     {
         let w = c.window;
-        match setting
-            .readers
-            .read(c.number, setting.input, w.left, w.right)
-        {
+        match setting.readers.read(c.number, setting.input, w) {
             Some(v) => {
                 let used = Window {
                     left: w.left,
