@@ -103,12 +103,6 @@ pub record Moves (read : Replies) (grammar : Grammar) (limits : Limits) (bytes :
   pub steps : stands grammar limits.frames rs nodes count s m ≡ next_step read grammar limits bytes before
   pub sound : Sound grammar bytes limits.frames rs nodes count m
 
--- whatever the readers, the limits and the bytes are
-abbrev pub Anyhow : Grammar → List Frame → List Node → ℕ → State → Mode → List Frame → List Node → ℕ → State → Mode → Type 0
-Anyhow grammar rs nodes count s m rs' nodes' count' s' m' =
-    (read : Replies) (limits : Limits) (bytes : List ℕ) → Sound grammar bytes limits.frames rs nodes count m
-    → Moves read grammar limits bytes (stands grammar limits.frames rs nodes count s m) rs' nodes' count' s' m'
-
 -- the latest frame's alternative has a next number
 unfoldable pub Small : List Frame → Type 0
 Small [] = Unit {0}
@@ -126,12 +120,6 @@ pub record Fielded (grammar : Grammar) (bytes : List ℕ) (frames : ℕ) (rs : L
 -- a frame's next term is t
 unfoldable pub NextIs : Grammar → Frame → Term → Type 0
 NextIs grammar f t = todo_of grammar f ≡ t ∷ drop (suc f.place) (slice_index_or (slice_index_or grammar f.what.number []) f.alt [])
-
--- a term of an unfinished start whose next term is t is run
-abbrev pub RunsOn : Replies → List ℕ → Term → List Frame → List Node → ℕ → State → Frame → List Frame → List Node → ℕ → State → Mode → Type 0
-RunsOn read bytes t rs nodes count s f rs' nodes' count' s' m' =
-    (grammar : Grammar) (limits : Limits) → NextIs grammar f t → Sound grammar bytes limits.frames rs nodes count (Runs f)
-    → Moves read grammar limits bytes (stands grammar limits.frames rs nodes count s (Runs f)) rs' nodes' count' s' m'
 
 -- there is a step left
 unfoldable pub goes_on : Mode → Bool

@@ -6,7 +6,8 @@ use Rattle.fields.specs.Fields.{Fields}
 use Rattle.meaning.specs.Syntax.{Grammar}
 use Rattle.meaning.specs.Meaning.{Replies, field, read_of}
 use Rattle.meaning.specs.declared.run.Start.{Start}
-use Rattle.machine.specs.Machine.{Next}
+use Rattle.machine.specs.Machine.{Next, next_means}
+use Rattle.machine.specs.Machine.Next.{over}
 use Rattle.sealed.specs.Grammars.{grammar_of}
 use Rattle.engine.specs.Configs.{stands, Stacked, Sound, Moves, Fielded}
 use Rattle.engine.specs.declared.frame.Frame.{Frame}
@@ -40,6 +41,10 @@ abbrev pub GoesAnyhow : Grammar → Tables → Mode → Tables → Mode → Type
 GoesAnyhow grammar t m t' m' =
     (read : Replies) (bytes : List ℕ) → SoundAt (record { read = read; grammar = grammar; bytes = bytes }) t m
     → Goes (record { read = read; grammar = grammar; bytes = bytes }) t m t' m'
+
+-- all its steps lead there, and no step is left
+abbrev pub Ends : Subject → Tables → Mode → Tables → Mode → Type 0
+Ends q t m t' m' = stands_at q.grammar t' m' ≡ over (next_means q.read q.grammar t.limits q.bytes (stands_at q.grammar t m))
 
 -- the limits, and the tables that were lent, stay the same
 pub record Kept (old new : Tables) : Type 0 where

@@ -11,7 +11,7 @@ use crate::setting::Setting;
 use crate::tables::Tables;
 use fields::FieldReader;
 use input::{Input, Window};
-use meaning::{Answer, Node, Start};
+use meaning::{Answer, Start};
 
 impl<'a> Tables<'a> {
     // A start is let through and made, or stops the parse.
@@ -53,18 +53,10 @@ impl<'a> Tables<'a> {
         match setting.readers.read(c.number, setting.input, w) {
             Some(v) => {
                 let used = Window {
-                    left: w.left,
                     right: w.left + v.used,
+                    ..w
                 };
-                self.nodes[c.node] = Node {
-                    number: c.number,
-                    alternative: 0,
-                    parent: c.parent,
-                    term: c.term,
-                    window: w,
-                    used,
-                    slots: [v.value, 0, 0, 0, 0, 0, 0, 0],
-                };
+                self.nodes[c.node] = c.done(0, used, [v.value, 0, 0, 0, 0, 0, 0, 0]);
                 self.state.reach = self.state.reach.join(used);
                 self.count = c.node + 1;
                 Mode::Returns(c.node)

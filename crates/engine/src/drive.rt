@@ -1,7 +1,5 @@
 ghost use Rattle.std.specs.Prelude.{◌≡◌};
-ghost use Rattle.machine.specs.Machine.{next_means};
-ghost use Rattle.machine.specs.Machine.Next.{over};
-ghost use Rattle.engine.specs.Steps.{subject, stands_at, SoundAt, Goes, Kept};
+ghost use Rattle.engine.specs.Steps.{subject, SoundAt, Goes, Ends, Kept};
 
 use crate::mode::Mode;
 use crate::setting::Setting;
@@ -40,7 +38,7 @@ impl<'a> Tables<'a> {
         numbers: &mut [u64; PENDING],
     ) -> Mode
         requires { SoundAt (subject I.Input.shown R.FieldReader.meaning setting.now) self.old first }
-        ensures means { stands_at (subject I.Input.shown R.FieldReader.meaning setting.now).grammar self.new result ≡ over (next_means (subject I.Input.shown R.FieldReader.meaning setting.now).read (subject I.Input.shown R.FieldReader.meaning setting.now).grammar self.old.limits (subject I.Input.shown R.FieldReader.meaning setting.now).bytes (stands_at (subject I.Input.shown R.FieldReader.meaning setting.now).grammar self.old first)) }
+        ensures ends { Ends (subject I.Input.shown R.FieldReader.meaning setting.now) self.old first self.new result }
         ensures sound { SoundAt (subject I.Input.shown R.FieldReader.meaning setting.now) self.new result }
         ensures frames { self.new.stack.slots.ghost_name ≡ self.old.stack.slots.ghost_name }
         ensures nodes { self.new.nodes.ghost_name ≡ self.old.nodes.ghost_name }

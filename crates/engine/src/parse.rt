@@ -126,12 +126,10 @@ fn root(rule: u16, len: usize) -> Mode
 {
     Mode::Begins(Start {
         number: rule,
-        parent: 0,
-        term: 0,
-        node: 0,
         window: Window {
             left: 0,
             right: len,
         },
+        ..Start::default()
     })
 }

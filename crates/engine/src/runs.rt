@@ -16,11 +16,12 @@ use arena::{Ends, Span};
 use evaluate::PENDING;
 use fields::FieldReader;
 use input::Input;
-use meaning::{Node, Start};
+use meaning::Start;
 use sealed::Term;
 
 impl<'a> Tables<'a> {
     // An unfinished start runs its next term.
+    #[tactic(auto, using(crate::proofs::Driving::in_use, crate::proofs::Driving::next_is))]
     pub(crate) fn run_next<I: Input, R: FieldReader>(
         &mut self,
         setting: &Setting<I, R>,
@@ -43,6 +44,7 @@ impl<'a> Tables<'a> {
     }
 
     // A guard lets its alternative go on, or not.
+    #[tactic(auto, using(crate::proofs::Driving::in_use, crate::proofs::Driving::has_try, crate::proofs::Driving::has_next))]
     fn run_guard<I: Input, R: FieldReader>(
         &mut self,
         setting: &Setting<I, R>,
@@ -65,6 +67,7 @@ impl<'a> Tables<'a> {
     }
 
     // An attribute's value goes into its slot.
+    #[tactic(auto, using(crate::proofs::Driving::in_use, crate::proofs::Driving::has_try, crate::proofs::Driving::has_next))]
     fn run_attribute<I: Input, R: FieldReader>(
         &mut self,
         setting: &Setting<I, R>,
@@ -88,6 +91,7 @@ impl<'a> Tables<'a> {
     }
 
     // A literal reads its window.
+    #[tactic(auto, using(crate::proofs::Driving::in_use, crate::proofs::Driving::has_try, crate::proofs::Driving::has_next))]
     fn run_literal<I: Input, R: FieldReader>(
         &mut self,
         setting: &Setting<I, R>,
@@ -116,6 +120,7 @@ impl<'a> Tables<'a> {
     }
 
     // A call puts its start aside and begins another.
+    #[tactic(auto, using(crate::proofs::Driving::in_use, crate::proofs::Driving::has_try, crate::proofs::Driving::has_next))]
     fn run_call<I: Input, R: FieldReader>(
         &mut self,
         setting: &Setting<I, R>,
@@ -149,15 +154,7 @@ impl<'a> Tables<'a> {
         ensures kept { Kept self.old self.new }
     {
         let c = f.what;
-        self.nodes[c.node] = Node {
-            number: c.number,
-            alternative: f.alt,
-            parent: c.parent,
-            term: c.term,
-            window: c.window,
-            used: f.used,
-            slots: self.nodes[c.node].slots,
-        };
+        self.nodes[c.node] = c.done(f.alt, f.used, self.nodes[c.node].slots);
         Mode::Returns(c.node)
     }
 }

@@ -59,8 +59,8 @@ impl<'a> Tables<'a> {
             next: k,
             after: k + n,
             used: Window {
-                left: c.window.left,
                 right: c.window.left,
+                ..c.window
             },
         })
     }

@@ -1,3 +1,7 @@
+ghost use Rattle.std.specs.Prelude.{◌≡◌, []};
+ghost use Rattle.meaning.specs.Meaning.{tree};
+
+use crate::node::Node;
 use input::Window;
 
 /// What is begun: a rule or a field reader on a window.
@@ -12,6 +16,24 @@ pub struct Start {
     /// The number that the start's own node will have.
     pub node: usize,
     pub window: Window,
+}
+
+impl Start {
+    /// The node of a start that has succeeded with this alternative.
+    #[tactic(auto, unfolding(crate::specs::Meaning::tree))]
+    pub fn done(self, alternative: usize, used: Window, slots: [u64; 8]) -> Node
+        ensures { result ≡ (tree self alternative (record { slots = slots; below = []; used = used })).top }
+    {
+        Node {
+            number: self.number,
+            alternative,
+            parent: self.parent,
+            term: self.term,
+            window: self.window,
+            used,
+            slots,
+        }
+    }
 }
 
 /// What every run hands on, also one that failed: the count of starts, and the reach.

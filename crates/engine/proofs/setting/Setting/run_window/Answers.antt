@@ -23,7 +23,7 @@ returns-clause-told g c =
     let q : Subject = record { read = read_of rd; grammar = gr; bytes = window_of (g.I.Input.shown v.below.now).bytes v.window.left v.window.right } in
     let d = c.drive-end.ensures in
     let s = c.default.ensures in
-    let told-now = (c.conclude-outcome.ensures q _ d.means d.sound).0
+    let told-now = (c.conclude-outcome.ensures q _ d.ends d.sound).0
     ∙ first_means gr limits q.bytes (held c.new.result) c.args.nodes.now c.args.rule c.len.result c.new.ensures.held c.len.ensures c.root.result c.root.ensures rd c.default.result (is_first c.default.result s.0 s.1.0 s.1.1)
     ∙ ap (λ v. parse rd gr limits c.args.rule (window_of (g.I.Input.shown v.below.now).bytes v.window.left v.window.right)) c.new-view.ensures in
     let lent = sym d.nodes in
@@ -35,6 +35,6 @@ returns-clause-count g c =
     let v = c.new-view.result in
     let q : Subject = record { read = read_of rd; grammar = grammar_of c.args.self.now.grammar.now; bytes = window_of (g.I.Input.shown v.below.now).bytes v.window.left v.window.right } in
     let d = c.drive-end.ensures in
-    let few = (c.conclude-outcome.ensures q _ d.means d.sound).1 in
+    let few = (c.conclude-outcome.ensures q _ d.ends d.sound).1 in
     let lent = sym d.nodes in
     search rules

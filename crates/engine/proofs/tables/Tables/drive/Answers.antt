@@ -19,7 +19,7 @@ loop-self-preserved g c =
     let kept = c.loop-self.invariant.2 in
     (sound_on q t _ m _ p.goes p.kept, means_on q t _ m _ p.goes p.kept _ kept ∙ c.loop-self.invariant.1, kept_on q t _ m _ p.goes p.kept _ kept)
 
-pub returns-clause-means : goal.returns-clause-means
-returns-clause-means g c =
+pub returns-clause-ends : goal.returns-clause-ends
+returns-clause-ends g c =
     let q = subject g.I.Input.shown g.R.FieldReader.meaning c.args.setting.now in
     ended_at q c.args.self.now c.loop-self.self c.loop-self.mode c.loop-self.invariant.2 (sym c.goes_on.ensures ∙ c.loop-self-test.false) ∙ ap over c.loop-self.invariant.1

@@ -10,7 +10,7 @@ returns-in-Some-clause-answers g c = λ frames rs few stacked.
     let t = c.args.self.now in
     let w = c.requires.window in
     let e = accepted (g.R.FieldReader.meaning c.args.setting.now.readers.now) c.args.c.number bs c.args.c.window w.0 w.1 t.state c.join-self.result c.in-Some.v c.in-Some.ensures c.join-self.ensures in
-    reader_gave _ bs frames rs t.nodes.now c.args.c few stacked c.in-Some.v _ _ e c.requires.node
+    rw c.done.ensures (reader_gave _ bs frames rs t.nodes.now c.args.c few stacked c.in-Some.v _ _ e c.requires.node)
 
 pub returns-in-None-clause-answers : goal.returns-in-None-clause-answers
 returns-in-None-clause-answers g c = λ frames rs few stacked.

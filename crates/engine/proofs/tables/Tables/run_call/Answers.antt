@@ -6,15 +6,6 @@ use Rattle.engine.proofs.Driving.{in_use, has_room, has_try, has_next}
 use Rattle.engine.proofs.Running.{call_none, call_begins}
 use Rattle.engine.proofs.tables.Tables.run_call.Goals as goal
 
-pub window_of-requires : goal.window_of-requires
-window_of-requires g c = (in_use _ _ _ _ _ _ _ c.requires.sound).0
-
-pub next_try-requires : goal.next_try-requires
-next_try-requires g c = has_try _ _ _ _ _ _ _ c.requires.sound
-
-pub onward-requires : goal.onward-requires
-onward-requires g c = has_next _ _ _ _ _ _ _ c.requires.sound _ c.requires.next
-
 pub returns-in_default-clause-goes : goal.returns-in_default-clause-goes
 returns-in_default-clause-goes g c =
     let q = subject g.I.Input.shown g.R.FieldReader.meaning c.args.setting.now in

@@ -4,18 +4,6 @@ use Rattle.engine.proofs.Driving.{in_use, has_try, has_next}
 use Rattle.engine.proofs.Running.{guard_none, guard_zero, guard_goes}
 use Rattle.engine.proofs.tables.Tables.run_guard.Goals as goal
 
-pub value_of-requires : goal.value_of-requires
-value_of-requires g c = (in_use _ _ _ _ _ _ _ c.requires.sound).0
-
-pub next_try-requires : goal.next_try-requires
-next_try-requires g c = has_try _ _ _ _ _ _ _ c.requires.sound
-
-pub next_try-requires-then-v-eq0 : goal.next_try-requires-then-v-eq0
-next_try-requires-then-v-eq0 g c = has_try _ _ _ _ _ _ _ c.requires.sound
-
-pub onward-requires : goal.onward-requires
-onward-requires g c = has_next _ _ _ _ _ _ _ c.requires.sound _ c.requires.next
-
 pub returns-in_default-clause-goes : goal.returns-in_default-clause-goes
 returns-in_default-clause-goes g c =
     let q = subject g.I.Input.shown g.R.FieldReader.meaning c.args.setting.now in

@@ -8,18 +8,6 @@ use Rattle.meaning.specs.Meaning.{same as alike}
 use Rattle.meaning.specs.Windows.{bytes_in}
 use Rattle.engine.proofs.tables.Tables.run_literal.Goals as goal
 
-pub window_of-requires : goal.window_of-requires
-window_of-requires g c = (in_use _ _ _ _ _ _ _ c.requires.sound).0
-
-pub next_try-requires : goal.next_try-requires
-next_try-requires g c = has_try _ _ _ _ _ _ _ c.requires.sound
-
-pub next_try-requires-then-len-wanted : goal.next_try-requires-then-len-wanted
-next_try-requires-then-len-wanted g c = has_try _ _ _ _ _ _ _ c.requires.sound
-
-pub next_try-requires-then-not-same_at : goal.next_try-requires-then-not-same_at
-next_try-requires-then-not-same_at g c = has_try _ _ _ _ _ _ _ c.requires.sound
-
 pub same_at-requires : goal.same_at-requires
 same_at-requires g c =
     let t = c.args.self.now in
@@ -27,9 +15,6 @@ same_at-requires g c =
     let inside = within _ _ _ _ _ _ f c.requires.sound in
     let lies = ends_within f.what (so_of t.nodes.now t.count f) _ _ c.in-Some.w c.in-Some.ensures inside.0 in
     (omega (arith, lies.0, c.len.ensures, c.if-len-wanted.false), omega (arith, lies.1, inside.1))
-
-pub onward-requires : goal.onward-requires
-onward-requires g c = has_next _ _ _ _ _ _ _ c.requires.sound _ c.requires.next
 
 pub returns-in_default-clause-goes : goal.returns-in_default-clause-goes
 returns-in_default-clause-goes g c =
