@@ -15,6 +15,7 @@ use meaning::{Answer, Start};
 
 impl<'a> Tables<'a> {
     // A start is let through and made, or stops the parse.
+    #[tactic(auto, using(sealed::proofs::Grammars::few_terms, crate::proofs::Beginning::no_budget, crate::proofs::Beginning::no_frame, crate::proofs::Beginning::no_node, crate::proofs::Beginning::begins_rule), unfolding(crate::specs::Configs::Sound))]
     pub(crate) fn begin<I: Input, R: FieldReader>(
         &mut self,
         setting: &Setting<I, R>,

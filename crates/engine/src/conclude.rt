@@ -12,6 +12,7 @@ use meaning::Answer;
 
 impl<'a> Tables<'a> {
     // The outcome that the engine has come to.
+    #[tactic(auto, using(crate::proofs::Outcomes::end_matched, crate::proofs::Outcomes::end_stopped, crate::proofs::Outcomes::end_failed))]
     pub(crate) fn conclude(&self, end: Mode) -> Outcome
         ensures { (q : Subject) (ran : Ran Tree) → stands_at q.grammar self.now end ≡ over ran → SoundAt q self.now end → (told result self.now.nodes.now ≡ outcome ran) × (result.nodes ≤ length self.now.nodes.now) }
     {

@@ -10,6 +10,7 @@ use input::Input;
 
 impl<'a> Tables<'a> {
     // One step.
+    #[tactic(auto, using(crate::proofs::Driving::sound_at, crate::proofs::Driving::stays, crate::proofs::Driving::rest_stops), unfolding(crate::specs::Configs::Sound))]
     fn step<I: Input, R: FieldReader>(
         &mut self,
         setting: &Setting<I, R>,

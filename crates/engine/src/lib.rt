@@ -2,7 +2,7 @@
 // proved to be a step of the machine that computes the meaning.
 //
 //     let setting = Setting { grammar: &grammar, readers: &Builtin, input: &input };
-//     let outcome = setting.parse(0, window, 1000, &mut frames, &mut nodes)?;
+//     let outcome = setting.parse(request, &mut frames, &mut nodes)?;
 #![tactic(auto)]
 
 mod begin;

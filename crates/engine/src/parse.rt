@@ -17,72 +17,64 @@ use input::{Input, Window, WindowInput};
 use meaning::{Limits, Node, Start, State};
 use stack::Stack;
 
+// What is asked: a window of the input by a rule, in at most so many starts.
+#[derive(Clone, Copy)]
+pub(crate) struct Request {
+    pub(crate) rule: u16,
+    pub(crate) window: Window,
+    pub(crate) budget: u64,
+}
+
 impl<'a, I: Input, R: FieldReader> Setting<'a, I, R> {
-    /// Parses a window of the input by a rule.
+    /// Parses what is asked.
     pub(crate) fn parse(
         &self,
-        rule: u16,
-        window: Window,
-        budget: u64,
+        request: Request,
         frames: &mut [Frame],
         nodes: &mut [Node],
     ) -> Result<Outcome, Refusal>
-        ensures { ◌≡◌ {A = After} (record { outcome = result; frames = frames.new; nodes = nodes.new }) (parse_after (R.FieldReader.meaning self.now.readers.now) (grammar_of self.now.grammar.now) (I.Input.shown self.now.input.now).bytes rule window.left window.right budget frames.old nodes.old) }
+        ensures { ◌≡◌ {A = After} (record { outcome = result; frames = frames.new; nodes = nodes.new }) (parse_after (R.FieldReader.meaning self.now.readers.now) (grammar_of self.now.grammar.now) (I.Input.shown self.now.input.now).bytes request.rule request.window.left request.window.right request.budget frames.old nodes.old) }
     {
-        if usize::from(rule) >= self.grammar.rule_count() {
+        if usize::from(request.rule) >= self.grammar.rule_count() {
             return Err(Refusal::UnknownRule);
         }
-        if !window.is_in(self.input.len()) {
+        if !request.window.is_in(self.input.len()) {
             return Err(Refusal::BadWindow);
         }
-        if !permitted(budget, frames.len(), nodes.len()) {
+        if !permitted(request.budget, frames.len(), nodes.len()) {
             return Err(Refusal::BadLimits);
         }
-        Ok(self.parse_window(rule, window, budget, frames, nodes))
+        Ok(self.parse_window(request, frames, nodes))
     }
 
     // Parses a window of the input; nothing is refused.
-    fn parse_window(
-        &self,
-        rule: u16,
-        window: Window,
-        budget: u64,
-        frames: &mut [Frame],
-        nodes: &mut [Node],
-    ) -> Outcome
-        requires { (window.left ≤ window.right) × (window.right ≤ length (I.Input.shown self.now.input.now).bytes) }
-        ensures { ◌≡◌ {A = After} (record { outcome = Ok result; frames = frames.new; nodes = nodes.new }) (leaves window.left (length frames.old) (length nodes.old) (meant (R.FieldReader.meaning self.now.readers.now) (grammar_of self.now.grammar.now) (record { budget = budget; frames = length frames.old; nodes = length nodes.old }) rule (window_of (I.Input.shown self.now.input.now).bytes window.left window.right))) }
+    fn parse_window(&self, request: Request, frames: &mut [Frame], nodes: &mut [Node]) -> Outcome
+        requires { (request.window.left ≤ request.window.right) × (request.window.right ≤ length (I.Input.shown self.now.input.now).bytes) }
+        ensures { ◌≡◌ {A = After} (record { outcome = Ok result; frames = frames.new; nodes = nodes.new }) (leaves request.window.left (length frames.old) (length nodes.old) (meant (R.FieldReader.meaning self.now.readers.now) (grammar_of self.now.grammar.now) (record { budget = request.budget; frames = length frames.old; nodes = length nodes.old }) request.rule (window_of (I.Input.shown self.now.input.now).bytes request.window.left request.window.right))) }
     {
-        let outcome = self.run_window(rule, window, budget, frames, nodes);
+        let outcome = self.run_window(request, frames, nodes);
         clear(frames);
-        move_nodes(nodes, outcome.nodes, window.left);
+        move_nodes(nodes, outcome.nodes, request.window.left);
         clear_rest(nodes, outcome.nodes);
         Outcome {
-            reach: place(outcome.reach, window.left),
+            reach: place(outcome.reach, request.window.left),
             ..outcome
         }
     }
 
     // Parses a window of the input, in places of the window; the frame table holds anything then.
-    fn run_window(
-        &self,
-        rule: u16,
-        window: Window,
-        budget: u64,
-        frames: &mut [Frame],
-        nodes: &mut [Node],
-    ) -> Outcome
-        ensures told { told result nodes.new ≡ meant (R.FieldReader.meaning self.now.readers.now) (grammar_of self.now.grammar.now) (record { budget = budget; frames = length frames.old; nodes = length nodes.old }) rule (window_of (I.Input.shown self.now.input.now).bytes window.left window.right) }
+    fn run_window(&self, request: Request, frames: &mut [Frame], nodes: &mut [Node]) -> Outcome
+        ensures told { told result nodes.new ≡ meant (R.FieldReader.meaning self.now.readers.now) (grammar_of self.now.grammar.now) (record { budget = request.budget; frames = length frames.old; nodes = length nodes.old }) request.rule (window_of (I.Input.shown self.now.input.now).bytes request.window.left request.window.right) }
         ensures count { result.nodes ≤ length nodes.new }
     {
-        let view = WindowInput::new(self.input, window);
+        let view = WindowInput::new(self.input, request.window);
         let setting = Setting {
             grammar: self.grammar,
             readers: self.readers,
             input: &view,
         };
         let limits = Limits {
-            budget,
+            budget: request.budget,
             frames: frames.len(),
             nodes: nodes.len(),
         };
@@ -94,7 +86,7 @@ impl<'a, I: Input, R: FieldReader> Setting<'a, I, R> {
             state: State::default(),
         };
         let mut numbers = [0u64; PENDING];
-        let end = tables.drive(&setting, root(rule, view.len()), &mut numbers);
+        let end = tables.drive(&setting, root(request.rule, view.len()), &mut numbers);
         let outcome = tables.conclude(end);
         // What was lent is given back.
         let Tables {

@@ -36,6 +36,7 @@ impl<'a> Tables<'a> {
     }
 
     // The window of a term.
+    #[tactic(auto, unfolding(meaning::specs::Values::ends, meaning::specs::Values::if_some))]
     pub(crate) fn window_of(
         &self,
         grammar: &Sealed,

@@ -1,7 +1,5 @@
-use Rattle.std.proofs.Common.{rules, ◌<◌, length, arith}
 use Rattle.stack.specs.Stacks.{held}
 use Rattle.engine.specs.Steps.{subject}
-use Rattle.engine.proofs.Driving.{in_use, has_try, has_next}
 use Rattle.engine.proofs.Running.{attribute_none, attribute_goes}
 use Rattle.engine.proofs.tables.Tables.run_attribute.Goals as goal
 

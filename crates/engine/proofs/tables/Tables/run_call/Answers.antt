@@ -2,7 +2,7 @@ use Rattle.std.proofs.Common.{◌<◌, length, refl, ◌∙◌, arith}
 use Rattle.stack.specs.Stacks.{held, room}
 use Rattle.evaluate.proofs.Pushing.{pushed_held}
 use Rattle.engine.specs.Steps.{subject}
-use Rattle.engine.proofs.Driving.{in_use, has_room, has_try, has_next}
+use Rattle.engine.proofs.Driving.{has_room}
 use Rattle.engine.proofs.Running.{call_none, call_begins}
 use Rattle.engine.proofs.tables.Tables.run_call.Goals as goal
 

@@ -1,6 +1,5 @@
 use Rattle.stack.specs.Stacks.{held}
 use Rattle.engine.specs.Steps.{subject}
-use Rattle.engine.proofs.Driving.{in_use, has_try, has_next}
 use Rattle.engine.proofs.Running.{guard_none, guard_zero, guard_goes}
 use Rattle.engine.proofs.tables.Tables.run_guard.Goals as goal
 

@@ -2,7 +2,7 @@ use Rattle.std.proofs.Common.{length, sym, ap, ◌∙◌, arith}
 use Rattle.stack.specs.Stacks.{held}
 use Rattle.engine.specs.Configs.{so_of}
 use Rattle.engine.specs.Steps.{subject}
-use Rattle.engine.proofs.Driving.{in_use, within, has_try, has_next}
+use Rattle.engine.proofs.Driving.{within}
 use Rattle.engine.proofs.Running.{ends_within, literal_none, literal_other, literal_differs, literal_goes}
 use Rattle.meaning.specs.Meaning.{same as alike}
 use Rattle.meaning.specs.Windows.{bytes_in}

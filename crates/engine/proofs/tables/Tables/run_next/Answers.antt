@@ -1,7 +1,5 @@
-use Rattle.std.proofs.Common.{ap, arith}
-use Rattle.sealed.specs.Grammars.{term_in}
 use Rattle.engine.specs.Steps.{subject}
-use Rattle.engine.proofs.Driving.{in_use, next_as, next_is, none_next}
+use Rattle.engine.proofs.Driving.{none_next}
 use Rattle.engine.proofs.tables.Tables.run_next.Goals as goal
 
 pub returns-in_default-clause-goes : goal.returns-in_default-clause-goes
