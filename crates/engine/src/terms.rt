@@ -30,7 +30,6 @@ impl<'a> Tables<'a> {
             start: f.what,
             slots: &node.slots,
             below: &self.nodes[me + 1..self.count],
-            used: f.used,
         };
         reached.value(grammar, e, numbers)
     }

@@ -3,13 +3,13 @@
 
 ghost use Rattle.std.specs.Prelude.{◌≡◌, ◌-◌, length, drop};
 ghost use Rattle.stack.specs.Stacks.{held};
+ghost use Rattle.input.specs.declared.window.Window.{Window as Extent};
 ghost use Rattle.meaning.specs.Values.{called, value as value_of};
 ghost use Rattle.sealed.specs.Grammars.{expr_in};
 ghost use Rattle.evaluate.specs.Reached.{progress};
 ghost use Rattle.evaluate.specs.Pending.{leaf_of, operated, latest as latest_of, next_value, values_left, last_value, LeftAs};
 
 use arena::Span;
-use input::Window;
 use meaning::{Node, Start, find_call};
 use operators::Op;
 use sealed::{Code, Sealed};
@@ -18,19 +18,18 @@ use stack::Stack;
 /// How many numbers may wait: as many as a grammar has code.
 pub const PENDING: usize = 1024;
 
-/// Where a start under way has come: its alternative's slots, the nodes below it, and what it has used.
+/// Where a start under way has come: its alternative's slots, and the nodes below it.
 #[derive(Clone, Copy)]
 pub struct Reached<'a> {
     pub start: Start,
     pub slots: &'a [u64],
     pub below: &'a [Node],
-    pub used: Window,
 }
 
 impl<'a> Reached<'a> {
     /// The value of the expression whose code is a part of a grammar's. The numbers are room to work in.
     pub fn value(&self, grammar: &Sealed, span: Span, numbers: &mut [u64; PENDING]) -> Option<u64>
-        ensures { result ≡ value_of self.now.start (progress self.now) (expr_in grammar.now span) }
+        ensures { (used : Extent) → result ≡ value_of self.now.start (progress self.now used) (expr_in grammar.now span) }
     {
         let codes = grammar.code_of(span);
         let mut stack = Stack::new(&mut numbers[0..PENDING]);
@@ -44,7 +43,7 @@ impl<'a> Reached<'a> {
     // What the next code comes to.
     #[tactic(auto, using(crate::proofs::Numbers::taken_part, crate::proofs::Numbers::left_part), unfolding(crate::specs::Pending::next_value, crate::specs::Pending::values_left))]
     fn next_number(&self, code: Code, stack: &mut Stack<u64>) -> Option<u64>
-        ensures answer { result ≡ next_value self.now.start (progress self.now) code (held stack.old) }
+        ensures answer { (used : Extent) → result ≡ next_value self.now.start (progress self.now used) code (held stack.old) }
         ensures left { LeftAs stack.old stack.new (values_left code (held stack.old)) }
     {
         match code {
@@ -57,7 +56,7 @@ impl<'a> Reached<'a> {
     // The value of a part; an operator or brackets alone have none.
     #[tactic(auto, unfolding(meaning::specs::Values::value, meaning::specs::Values::if_some, operators::specs::Applied::applied))]
     fn part_value(&self, code: Code) -> Option<u64>
-        ensures { result ≡ value_of self.now.start (progress self.now) (leaf_of code) }
+        ensures { (used : Extent) → result ≡ value_of self.now.start (progress self.now used) (leaf_of code) }
     {
         match code {
             Code::Number(n) => Some(n),

@@ -11,21 +11,20 @@ use Rattle.evaluate.proofs.Worth.{worth_more, worth_none, worth_end, comes_to}
 use Rattle.evaluate.proofs.Reached.value.Goals as goal
 
 pub returns-in_err-v : goal.returns-in_err-v
-returns-in_err-v c =
+returns-in_err-v c = λ used.
     let at = c.args.self.now.start in
-    let so = progress c.args.self.now in
+    let so = progress c.args.self.now used in
     let cs = c.code_of-codes.result.now in
     let vs = held c.loop-code.stack in
     c.from_residual.ensures
-    ∙ worth_none at so cs c.loop-code.code-index _ vs c.loop-code-test.true c.in_err-v.ensures.answer
-    ∙ c.loop-code.invariant.3
+    ∙ worth_none at so cs c.loop-code.code-index _ vs c.loop-code-test.true (c.in_err-v.ensures.answer used)
+    ∙ c.loop-code.invariant.3 used
     ∙ comes_to at so cs
     ∙ ap (λ z. value at so (expr_of z)) c.code_of-codes.ensures
 
 pub loop-code-preserved : goal.loop-code-preserved
 loop-code-preserved c =
     let at = c.args.self.now.start in
-    let so = progress c.args.self.now in
     let cs = c.code_of-codes.result.now in
     let i = c.loop-code.code-index in
     let vs = held c.loop-code.stack in
@@ -44,17 +43,17 @@ loop-code-preserved c =
       p.lender ∙ n.lender ∙ inv.0,
       ap length p.room ∙ pushed_room rs xs v fits ∙ ap length n.room ∙ inv.1,
       omega (arith, ap length after, few),
-      worth_more at so cs i _ vs c.loop-code-test.true v (held c.push.new.self) c.in_ok-v.ensures.answer (after ∙ ap (λ z. v ∷ z) n.held) ∙ inv.3,
+      λ used. let so = progress c.args.self.now used in worth_more at so cs i _ vs c.loop-code-test.true v (held c.push.new.self) (c.in_ok-v.ensures.answer used) (after ∙ ap (λ z. v ∷ z) n.held) ∙ inv.3 used,
     )
 
 pub returns : goal.returns
-returns c =
+returns c = λ used.
     let at = c.args.self.now.start in
-    let so = progress c.args.self.now in
+    let so = progress c.args.self.now used in
     let cs = c.code_of-codes.result.now in
     let vs = held c.loop-code.stack in
     c.last_number.ensures.answer
     ∙ worth_end at so cs c.loop-code.code-index vs c.loop-code-test.false
-    ∙ c.loop-code.invariant.3
+    ∙ c.loop-code.invariant.3 used
     ∙ comes_to at so cs
     ∙ ap (λ z. value at so (expr_of z)) c.code_of-codes.ensures

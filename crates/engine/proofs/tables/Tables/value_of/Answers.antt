@@ -7,4 +7,4 @@ use Rattle.engine.proofs.tables.Tables.value_of.Goals as goal
 pub returns : goal.returns
 returns c =
     let t = c.args.self.now in
-    c.value.ensures ∙ ap (λ so. value c.args.f.what so (expr_in c.args.grammar.now c.args.e)) (so_is t.nodes.now c.args.f t.count _ c.requires t.few)
+    c.value.ensures c.args.f.used ∙ ap (λ so. value c.args.f.what so (expr_in c.args.grammar.now c.args.e)) (so_is t.nodes.now c.args.f t.count _ c.requires t.few)
