@@ -18,6 +18,7 @@ mod setting;
 mod steps;
 mod tables;
 mod terms;
+mod tests;
 
 pub use frame::Frame;
 pub use outcome::{Outcome, Refusal};
