@@ -12,12 +12,11 @@ use crate::mode::Mode;
 use crate::setting::Setting;
 use crate::tables::Tables;
 use crate::terms::{put_slot, same_at};
-use arena::{Ends, Span};
+use arena::{Ends, Span, Term};
 use evaluate::PENDING;
 use fields::FieldReader;
 use input::Input;
 use meaning::Start;
-use sealed::Term;
 
 impl<'a> Tables<'a> {
     // An unfinished start runs its next term.
