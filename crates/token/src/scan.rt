@@ -8,12 +8,12 @@ use operators::Op;
 use strings::decoded_len;
 
 /// A place that has no token.
-#[derive(Clone, Copy)]
+#[derive(Clone, Copy, PartialEq, Eq, Debug)]
 pub struct NoToken {
     pub place: usize,
 }
 
-// The most bytes that a name has.
+/// The most bytes that a name has.
 const NAME_LIMIT: usize = 24;
 
 /// How many bytes at the front pass.
@@ -54,6 +54,7 @@ fn is_text_byte(b: u8) -> bool
     !matches!(byte_class(b), Class::Quote | Class::End)
 }
 
+/// What a digit counts.
 fn digit(b: u8) -> u64
     ensures { result ≡ digit_in (byte_class b) }
 {
@@ -85,12 +86,14 @@ fn word(w: &[u8]) -> Token<'_>
     }
 }
 
+/// Whether a string may have the body: it gives 1 to 16 bytes.
 fn allowed(body: &[u8]) -> bool
     ensures { result ≡ allowed_body body.now }
 {
     decoded_len(body).is_some_and(|n| (1..=16).contains(&n))
 }
 
+/// How many bytes an operator has.
 fn width(op: Op) -> usize
     ensures { result ≡ width_of op }
 {
