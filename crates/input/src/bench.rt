@@ -1,30 +1,36 @@
-ghost use Rattle.std.specs.Prelude.{◌≡◌, [], length};
-ghost use Rattle.input.specs.Bytes.{byte_at};
-ghost use Rattle.input.specs.Errata.{patch_answer, patched, undo_answer, undone, LatestShows};
-ghost use Rattle.input.specs.Benches.{errata, bench_shown};
+ghost use Rattle.std.specs.Prelude.{◌≡◌, ◌≤◌, length};
 
 use crate::Input;
 use crate::patch::Patch;
 use crate::refusal::Refusal;
-use arrayvec::ArrayVec;
 
 const MOST_PATCHES: usize = 32;
 
-/// The patch layer: an input that shows another with patches written over it, the oldest first.
+/// The patch layer: an input that shows another with patches written over it. Of `table` the first `count` stand, oldest first.
 #[derive(Drop)]
 pub struct Bench<I> {
     below: I,
-    patches: ArrayVec<Patch, MOST_PATCHES>,
+    table: [Patch; MOST_PATCHES],
+    count: usize,
+    ghost few: { count ≤ 32 },
+    ghost whole: { length table ≡ 32 },
 }
 
 impl<I: Input> Bench<I> {
+    ghost use Rattle.std.specs.Prelude.{[]};
+    ghost use Rattle.input.specs.Errata.{patch_answer, patched, undo_answer, undone};
+    ghost use Rattle.input.specs.Benches.{errata};
+
     /// A new bench on an input: it has no errata.
     pub fn new(below: I) -> Bench<I>
         ensures below { result.below ≡ below }
         ensures errata { errata result ≡ [] }
     {
-        let patches = ArrayVec::new();
-        Bench { below, patches }
+        Bench {
+            below,
+            table: Default::default(),
+            count: 0,
+        }
     }
 
     /// Shows `bytes` from `place` on.
@@ -38,19 +44,27 @@ impl<I: Input> Bench<I> {
         if place > end || bytes.len() > end - place {
             return Err(Refusal::PatchPlace);
         }
-        match self.patches.try_push(patch) {
-            Ok(()) => Ok(()),
-            Err(_) => Err(Refusal::PatchesFull),
+        if self.count == MOST_PATCHES {
+            return Err(Refusal::PatchesFull);
         }
+        let entry = &mut self.table[self.count];
+        *entry = patch;
+        self.count += 1;
+        Ok(())
     }
 
-    /// Takes the latest patch off.
+    /// Takes the latest patch off, and blanks its entry, which can be used again.
     pub fn undo(&mut self) -> Result<(), Refusal>
         ensures answer { result ≡ undo_answer (errata self.old) }
         ensures errata { errata self.new ≡ undone (errata self.old) }
         ensures below { self.new.below ≡ self.old.below }
     {
-        let _latest = self.patches.pop().ok_or(Refusal::NoPatch)?;
+        if self.count == 0 {
+            return Err(Refusal::NoPatch);
+        }
+        self.count -= 1;
+        let entry = &mut self.table[self.count];
+        *entry = Patch::default();
         Ok(())
     }
 
@@ -58,12 +72,18 @@ impl<I: Input> Bench<I> {
     pub fn into_below(self) -> I
         ensures { result ≡ self.below }
     {
-        let Bench { below, patches: _ } = self;
+        let Bench {
+            below,
+            table: _,
+            count: _,
+        } = self;
         below
     }
 }
 
 impl<I: Input> Input for Bench<I> {
+    ghost use Rattle.input.specs.Benches.{errata, bench_shown};
+
     ghost shown = { λ s. bench_shown (I.Input.shown s.below) (errata s) };
 
     fn len(&self) -> usize {
@@ -72,15 +92,9 @@ impl<I: Input> Input for Bench<I> {
 
     fn byte(&self, place: usize) -> Option<u8> {
         let own = self.below.byte(place)?;
-        let shown = self
-            .patches
+        let shown = self.table[..self.count]
             .iter()
             .fold(own, |shown, patch| patch.at(place).unwrap_or(shown));
         Some(shown)
     }
 }
-
-/// A law: whatever the errata, the latest one that covers a place shows there, and the list below where none does.
-pub fn latest_shows()
-    ensures { LatestShows }
-{}

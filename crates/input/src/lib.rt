@@ -5,6 +5,7 @@ ghost use Rattle.std.specs.Prelude.{◌≡◌, length};
 ghost use Rattle.input.specs.Bytes.{Shown, byte_at};
 
 pub mod bench;
+pub mod laws;
 mod patch;
 pub mod refusal;
 pub mod slice;

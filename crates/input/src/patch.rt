@@ -7,7 +7,7 @@ use arrayvec::ArrayVec;
 /// The most bytes of a patch.
 const LONGEST: usize = 8;
 
-/// An entry of the patch table: some bytes, and the place from which they are shown.
+/// An entry of the patch table: some bytes, and the place from which they are shown. A blank one has no bytes.
 #[derive(Default, Drop)]
 pub struct Patch {
     place: usize,

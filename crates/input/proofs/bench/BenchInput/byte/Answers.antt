@@ -1,4 +1,4 @@
-use Rattle.std.proofs.Common.{rules, ◌≡◌, ◌<◌, length, get_or, sym, ap, ◌∙◌, arith}
+use Rattle.std.proofs.Common.{rules, ◌≡◌, ◌<◌, length, get_or, take, sym, ap, ◌∙◌, arith}
 use Rattle.std.proofs.lemmas.Bool.Decides.{nat_tests}
 use Rattle.std.specs.List.{fold}
 use Rattle.std.specs.Option.{unwrap_or}
@@ -17,7 +17,7 @@ pub returns : goal.returns
 returns g c =
     let xs = (g.I.Input.shown c.args.self.now.below).bytes in
     let k = c.args.place in
-    let ps = c.args.self.now.patches.items in
+    let ps = take c.args.self.now.count c.args.self.now.table in
     let w = c.in_ok-own.ensures in
     let inside : k < length xs = grind (arith, nat_tests) in
     let own : c.in_ok-own.own ≡ get_or xs k 0 = grind (arith, nat_tests) in

@@ -1,5 +1,5 @@
 use Rattle.input.proofs.Writes.{latest_shows}
-use Rattle.input.proofs.bench.latest_shows.Goals as goal
+use Rattle.input.proofs.laws.latest_shows.Goals as goal
 
 pub returns : goal.returns
 returns c = latest_shows
