@@ -35,10 +35,7 @@ pub fn callee(rules: &Arena<Rule, 33>, name: &[u8]) -> Option<u16>
 fn calls(term: &NamedTerm, name: &[u8]) -> bool
     ensures { result ≡ is_name (called_entry (entry term.now)) name.now }
 {
-    match term {
-        Term::Call(other, _) => other.bytes() == name,
-        _ => false,
-    }
+    matches!(term, Term::Call(other, _) if other.bytes() == name)
 }
 
 /// The place of the latest call of the name.

@@ -27,8 +27,5 @@ pub fn rule_named(rules: &[Rule], name: &[u8]) -> bool
 pub fn is_attribute(term: &NamedTerm, name: &[u8]) -> bool
     ensures { result ≡ attribute_is name.now (entry term.now) }
 {
-    match term {
-        Term::Attribute((other, _), _) => other.bytes() == name,
-        _ => false,
-    }
+    matches!(term, Term::Attribute((other, _), _) if other.bytes() == name)
 }
