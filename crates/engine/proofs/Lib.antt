@@ -1,2 +1,14 @@
-mod Outcomes
-mod Parsing
+pub mod Blanks
+pub mod Frames
+pub mod Moving
+pub mod Trying
+pub mod Reading
+pub mod Beginning
+pub mod Running
+pub mod Driving
+pub mod Cleared
+pub mod Same
+pub mod Standing
+pub mod Turning
+pub mod Outcomes
+pub mod Parsing

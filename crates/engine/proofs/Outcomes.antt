@@ -12,15 +12,13 @@ use Rattle.meaning.specs.Meaning.{read_of}
 use Rattle.meaning.specs.declared.answer.Answer.{Answer}
 use Rattle.meaning.specs.declared.answer.Answer.TheVariants.{Match, NoMatch}
 use Rattle.meaning.specs.declared.node.Node.{Node}
-use Rattle.meaning.specs.declared.run.Start.{Start}
 use Rattle.meaning.specs.declared.run.State.{State}
 use Rattle.meaning.specs.declared.run.Limits.{Limits}
-use Rattle.frames.specs.declared.config.Frame.{Frame}
-use Rattle.frames.specs.declared.config.Mode.{Mode}
-use Rattle.frames.specs.declared.config.Mode.TheVariants.{Begins, Runs, Tries, Returns, GivesUp, Matched, Failed, Stopped}
-use Rattle.machine.specs.Work.{InBudget}
-use Rattle.frames.specs.Blanks.{blank_node}
-use Rattle.frames.specs.Configs.{tree_at, frames_of, stands, Stacked, Sound}
+use Rattle.engine.specs.declared.frame.Frame.{Frame}
+use Rattle.engine.specs.declared.mode.Mode.{Mode}
+use Rattle.engine.specs.declared.mode.Mode.TheVariants.{Begins, Runs, Tries, Returns, GivesUp, Matched, Failed, Stopped}
+use Rattle.engine.specs.Blanks.{blank_node}
+use Rattle.engine.specs.Configs.{tree_at, frames_of, stands, Stacked, Sound}
 use Rattle.engine.specs.Parses.{told}
 
 module _ (grammar : Grammar) (bytes : List ℕ) (frames : ℕ) (rs : List Frame) (nodes : List Node) (count : ℕ) (s : State) (ran : Ran Tree) where
@@ -54,23 +52,17 @@ module _ (grammar : Grammar) (bytes : List ℕ) (frames : ℕ) (rs : List Frame)
   end_failed Failed x y h = let r : fails s ≡ ran = cc in (ap outcome r, zero-le)
   end_failed (Stopped n) x y h = absurd (y n refl)
 
-abbrev pub first_state : State
-first_state = record { starts = 0; reach = record { left = 0; right = 0 } }
+module _ (grammar : Grammar) (limits : Limits) (bytes : List ℕ) (rs : List Frame) (nodes : List Node) (rule n : ℕ) (none : rs ≡ []) (long : n ≡ length bytes) (m : Mode) (begins : m ≡ Begins (root rule n)) where
+  pub first_sound : Sound grammar bytes limits.frames rs nodes 0 m
+  unfolding Sound Stacked root
+  first_sound = rw (none, begins) (refl, zero-le, zero-le, (zero-le, omega arith), refl)
 
-abbrev pub first_start : ℕ → ℕ → Start
-first_start rule n = record { number = rule; parent = 0; term = 0; node = 0; window = record { left = 0; right = n } }
-
-module _ (grammar : Grammar) (limits : Limits) (bytes : List ℕ) (rs : List Frame) (nodes : List Node) (rule n : ℕ) (none : rs ≡ []) (long : n ≡ length bytes) where
-  pub first_sound : Sound grammar bytes limits.frames rs nodes 0 (Begins (first_start rule n))
-  unfolding Sound Stacked
-  first_sound = rw none (refl, zero-le, zero-le, (zero-le, omega arith), refl)
-
-  pub first_budget : InBudget limits (stands grammar limits.frames rs nodes 0 first_state (Begins (first_start rule n)))
-  unfolding stands InBudget
-  first_budget = zero-le
-
-  pub first_means : (fields : Fields) → outcome (next_means (read_of fields) grammar limits bytes (stands grammar limits.frames rs nodes 0 first_state (Begins (first_start rule n)))) ≡ parse fields grammar limits rule bytes
+  pub first_means : (fields : Fields) (s : State) → s ≡ at_first → outcome (next_means (read_of fields) grammar limits bytes (stands grammar limits.frames rs nodes 0 s m)) ≡ parse fields grammar limits rule bytes
   unfolding stands denote whole frames_of parse root at_first
-  first_means fields =
+  first_means fields s fresh =
       let z : limits.frames - 0 ≡ limits.frames = omega arith in
-      simp (none, z, long)
+      simp (begins, fresh, none, z, long)
+
+pub is_first : (s : State) → s.starts ≡ 0 → s.reach.left ≡ 0 → s.reach.right ≡ 0 → s ≡ at_first
+unfolding at_first
+is_first s a b c = rw (a, b, c) refl

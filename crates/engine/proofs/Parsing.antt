@@ -1,22 +1,21 @@
 -- Refusals, and what is left behind.
-use Rattle.std.proofs.Common.{◌≡◌, ℕ, ◌+◌, ◌-◌, ◌<◌, ◌≤◌, true, leb, List, ◌++◌, map, length, get_or, take, drop, replicate, sym, ap, ◌∙◌, inl, inr, arith, leb-true}
+use Rattle.std.proofs.Common.{◌≡◌, ℕ, ◌+◌, ◌-◌, ◌<◌, ◌≤◌, true, leb, List, ◌++◌, map, length, get_or, take, drop, replicate, sym, ap, ◌∙◌, Ok, inl, inr, arith, leb-true}
 use Rattle.std.proofs.lemmas.Bool.Decides.{nat_tests}
 use Rattle.std.proofs.lemmas.Bool.{and_parts}
 use Rattle.std.proofs.lemmas.List.{get_or-take, length-map, length-take-le, take_at}
 use Rattle.meaning.specs.Meaning as meaning
 use Rattle.meaning.specs.declared.node.Node.{Node}
-use Rattle.meaning.specs.declared.window.Window.{Window}
-use Rattle.frames.specs.declared.config.Frame.{Frame}
-use Rattle.engine.specs.declared.ending.Ending.{Ending}
-use Rattle.engine.specs.declared.outcome.Reply.TheVariants.{Ended}
+use Rattle.input.specs.declared.window.Window.{Window}
+use Rattle.engine.specs.declared.frame.Frame.{Frame}
+use Rattle.engine.specs.declared.outcome.Outcome.{Outcome}
 use Rattle.input.specs.Bytes.{in_order}
 use Rattle.meaning.specs.Shape.{Shaped, Inside, PartOf}
 use Rattle.meaning.specs.Meaning.{whole}
 use Rattle.meaning.specs.Syntax.{Grammar}
 use Rattle.meaning.specs.declared.run.Limits.{Limits}
-use Rattle.frames.specs.Blanks.{blank_node, blank_frame}
+use Rattle.engine.specs.Blanks.{blank_node, blank_frame}
 use Rattle.engine.specs.Parses.{told, After, leaves, allowed}
-use Rattle.tables.specs.Places.{placed, absolute, FitAt, NodeFits}
+use Rattle.engine.specs.Places.{placed, absolute, FitAt, NodeFits}
 
 pub ordered_parts : (l r n : ℕ) → in_order l r n ≡ true → (l ≤ r) × (r ≤ n)
 ordered_parts l r n e = let p = and_parts (leb l r) (leb r n) e in (leb-true l r p.0, leb-true r n p.1)
@@ -26,7 +25,7 @@ unfolding allowed
 allowed_budget b f n e = grind (arith, nat_tests)
 
 -- the node table, moved and blanked
-module _ (left : ℕ) (r : Ending) (run₁ run₂ run₃ : List Node) (o : meaning.Outcome) (is : told r run₁ ≡ o) (few : r.nodes ≤ length run₁) where
+module _ (left : ℕ) (r : Outcome) (run₁ run₂ run₃ : List Node) (o : meaning.Outcome) (is : told r run₁ ≡ o) (few : r.nodes ≤ length run₁) where
   front : take r.nodes run₁ ≡ o.nodes
   front = ap (λ (z : meaning.Outcome). z.nodes) is
 
@@ -43,7 +42,7 @@ module _ (left : ℕ) (r : Ending) (run₁ run₂ run₃ : List Node) (o : meani
       ∙ ap (λ z. map (absolute left) o.nodes ++ replicate z blank_node) (ap (λ z. z - r.nodes) h ∙ ap (λ z. n - z) count_is)
 
   pub all_left : (w : Window) (frames : List Frame) (f n : ℕ) → w ≡ placed left r.reach → frames ≡ replicate f blank_frame → run₃ ≡ map (absolute left) o.nodes ++ replicate (n - length o.nodes) blank_node
-      → ◌≡◌ {A = After} (record { outcome = record { answer = Ended r.answer; nodes = r.nodes; starts = r.starts; reach = w }; frames = frames; nodes = run₃ }) (leaves left f n o)
+      → ◌≡◌ {A = After} (record { outcome = Ok (record { answer = r.answer; nodes = r.nodes; starts = r.starts; reach = w }); frames = frames; nodes = run₃ }) (leaves left f n o)
   unfolding leaves
   all_left w frames f n e q p =
       let a : r.answer ≡ o.answer = ap (λ (z : meaning.Outcome). z.answer) is in
@@ -53,7 +52,7 @@ module _ (left : ℕ) (r : Ending) (run₁ run₂ run₃ : List Node) (o : meani
       rw (a, b, x, q, p, count_is)
 
 -- a node that a parse means, where the table has it
-pub node_is : (r : Ending) (nodes : List Node) (o : meaning.Outcome) (i : ℕ) → told r nodes ≡ o → i < r.nodes → get_or nodes i blank_node ≡ get_or o.nodes i blank_node
+pub node_is : (r : Outcome) (nodes : List Node) (o : meaning.Outcome) (i : ℕ) → told r nodes ≡ o → i < r.nodes → get_or nodes i blank_node ≡ get_or o.nodes i blank_node
 node_is r nodes o i e h = sym (get_or-take r.nodes nodes i blank_node h) ∙ ap (λ (z : meaning.Outcome). get_or z.nodes i blank_node) e
 
 -- a window that lies within n places
@@ -72,7 +71,7 @@ module _ (left n : ℕ) (near : n + left ≤ 16777216) where
   fit_moves : (w : Window) → Fit n w → FitAt left w
   fit_moves w h = (omega (arith, h.0), omega (arith, h.1))
 
-  module _ (grammar : Grammar) (limits : Limits) (rule : ℕ) (r : Ending) (nodes : List Node) (o : meaning.Outcome) (is : told r nodes ≡ o) (shaped : Shaped grammar limits rule n o) where
+  module _ (grammar : Grammar) (limits : Limits) (rule : ℕ) (r : Outcome) (nodes : List Node) (o : meaning.Outcome) (is : told r nodes ≡ o) (shaped : Shaped grammar limits rule n o) where
     pub reach_moves : FitAt left r.reach
     reach_moves =
         let d : r.reach ≡ o.reach = ap (λ (z : meaning.Outcome). z.reach) is in

@@ -1,39 +1,34 @@
 -- What a parse answers, and what it leaves in the two tables.
-use Rattle.std.specs.Prelude.{ℕ, ◌-◌, Bool, cond, ◌&&◌, List, ◌++◌, map, length, take, replicate, nat_le, nat_lt}
+use Rattle.std.specs.Prelude.{ℕ, ◌-◌, Bool, cond, ◌&&◌, List, ◌++◌, map, length, take, replicate, Ok, Err, Result, nat_le, nat_lt}
 use Rattle.input.specs.Bytes.{in_order, window_of}
 use Rattle.fields.specs.Fields.{Fields}
 use Rattle.meaning.specs.Syntax.{Grammar}
 use Rattle.meaning.specs.Meaning as meaning
 use Rattle.meaning.specs.declared.node.Node.{Node}
-use Rattle.tables.specs.Places.{placed, absolute}
-use Rattle.frames.specs.Blanks.{nowhere, blank_node, blank_frame}
-use Rattle.frames.specs.declared.config.Frame.{Frame}
-use Rattle.engine.specs.declared.ending.Ending.{Ending}
+use Rattle.engine.specs.Places.{placed, absolute}
+use Rattle.engine.specs.Blanks.{blank_node, blank_frame}
+use Rattle.engine.specs.declared.frame.Frame.{Frame}
 use Rattle.engine.specs.declared.outcome.Outcome.{Outcome}
-use Rattle.engine.specs.declared.outcome.Reply.{Reply}
-use Rattle.engine.specs.declared.outcome.Reply.TheVariants.{Ended, UnknownRule, BadWindow, BadLimits}
+use Rattle.engine.specs.declared.outcome.Refusal.{Refusal}
+use Rattle.engine.specs.declared.outcome.Refusal.TheVariants.{UnknownRule, BadWindow, BadLimits}
 
 -- ---- What is left behind
 
--- an outcome, and what the two tables then hold
+-- an outcome or a refusal, and what the two tables then hold
 pub record After : Type 0 where
-  pub outcome : Outcome
+  pub outcome : Result Outcome Refusal
   pub frames : List Frame
   pub nodes : List Node
 
 -- of what a parse means, in tables of so many frames and nodes: the nodes of a match, and else blanks
 unfoldable pub leaves : (left frames nodes : ℕ) → meaning.Outcome → After
 leaves left frames nodes o = record {
-  outcome = record { answer = Ended o.answer; nodes = length o.nodes; starts = o.starts; reach = placed left o.reach };
+  outcome = Ok (record { answer = o.answer; nodes = length o.nodes; starts = o.starts; reach = placed left o.reach });
   frames = replicate frames blank_frame;
   nodes = map (absolute left) o.nodes ++ replicate (nodes - length o.nodes) blank_node;
 }
 
 -- ---- Refusals
-
--- every field but the answer is 0
-abbrev pub refused : Reply → Outcome
-refused why = record { answer = why; nodes = 0; starts = 0; reach = nowhere }
 
 -- a budget of 1 to 1,000,000, 1 to 4,096 frames, and 1 to 65,535 nodes
 unfoldable pub allowed : (budget frames nodes : ℕ) → Bool
@@ -48,12 +43,12 @@ parse_after fields grammar bytes rule left right budget frames nodes =
     (cond (allowed budget (length frames) (length nodes))
     (leaves left (length frames) (length nodes)
     (meaning.parse fields grammar (record { budget = budget; frames = length frames; nodes = length nodes }) rule (window_of bytes left right)))
-    (record { outcome = refused BadLimits; frames = frames; nodes = nodes }))
-    (record { outcome = refused BadWindow; frames = frames; nodes = nodes }))
-    (record { outcome = refused UnknownRule; frames = frames; nodes = nodes })
+    (record { outcome = Err BadLimits; frames = frames; nodes = nodes }))
+    (record { outcome = Err BadWindow; frames = frames; nodes = nodes }))
+    (record { outcome = Err UnknownRule; frames = frames; nodes = nodes })
 
 -- ---- Words of the contracts inside
 
 -- how a parse ended, with its node table, in places of the window
-abbrev pub told : Ending → List Node → meaning.Outcome
+abbrev pub told : Outcome → List Node → meaning.Outcome
 told r nodes = record { answer = r.answer; nodes = take r.nodes nodes; starts = r.starts; reach = r.reach }

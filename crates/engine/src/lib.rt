@@ -1,12 +1,24 @@
-// Parses a window of an input by a rule of a sealed grammar, in tables that the caller lends.
+// Parses a window of an input by a rule of a sealed grammar, in tables that the caller lends. Each small step of it is
+// proved to be a step of the machine that computes the meaning.
 //
-//     let outcome = parse(&grammar, &Builtin, &input, 0, 0, input.len(), 1000, &mut frames, &mut nodes);
+//     let setting = Setting { grammar: &grammar, readers: &Builtin, input: &input };
+//     let outcome = setting.parse(request, &mut frames, &mut nodes)?;
 #![tactic(auto)]
 
+mod begin;
+mod conclude;
 mod drive;
-mod ending;
+pub mod frame;
+pub mod mode;
 pub mod outcome;
 mod parse;
-mod run;
+mod places;
+mod runs;
+mod setting;
+mod steps;
+mod tables;
+mod terms;
+mod tests;
 
-pub use outcome::{Outcome, Reply};
+pub use frame::Frame;
+pub use outcome::{Outcome, Refusal};

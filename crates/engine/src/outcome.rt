@@ -1,12 +1,32 @@
-ghost use Rattle.std.specs.Prelude.{◌≡◌};
-ghost use Rattle.engine.specs.Replies.{reply_number};
+ghost use Rattle.meaning.specs.Answers.{answer_number};
+ghost use Rattle.engine.specs.Replies.{refusal_number};
 
-use meaning::{Answer, Window};
+use answers::Numbered;
+use input::Window;
+use meaning::Answer;
 
-/// What a parse answers: how it ended, or why it was refused.
-#[derive(Clone, Copy, PartialEq, Eq)]
-pub enum Reply {
-    Ended(Answer),
+/// What a parse has come to.
+#[derive(Clone, Copy, PartialEq, Eq, Debug)]
+pub struct Outcome {
+    pub answer: Answer,
+    pub nodes: usize,
+    pub starts: u64,
+    /// The smallest window over every byte read.
+    pub reach: Window,
+}
+
+// An outcome has the number of its answer.
+impl Numbered for Outcome {
+    ghost listed = { λ o. answer_number o.answer };
+
+    fn number(&self) -> u8 {
+        self.answer.number()
+    }
+}
+
+/// Why a parse was refused.
+#[derive(Clone, Copy, PartialEq, Eq, Debug)]
+pub enum Refusal {
     /// The grammar has no such rule.
     UnknownRule,
     /// The window is out of order or past the end of the input.
@@ -15,26 +35,15 @@ pub enum Reply {
     BadLimits,
 }
 
-impl Reply {
-    /// The answer's listed number.
-    pub fn number(self) -> u8
-        ensures { result ≡ reply_number self }
-    {
+// The refusal's listed number.
+impl Numbered for Refusal {
+    ghost listed = { refusal_number };
+
+    fn number(&self) -> u8 {
         match self {
-            Reply::Ended(answer) => answer.number(),
-            Reply::UnknownRule => 21,
-            Reply::BadWindow => 22,
-            Reply::BadLimits => 23,
+            Refusal::UnknownRule => 21,
+            Refusal::BadWindow => 22,
+            Refusal::BadLimits => 23,
         }
     }
-}
-
-/// What a parse has come to.
-#[derive(Clone, Copy)]
-pub struct Outcome {
-    pub answer: Reply,
-    pub nodes: u64,
-    pub starts: u64,
-    /// The smallest window over every byte read.
-    pub reach: Window,
 }

@@ -1,30 +1,106 @@
-ghost use Rattle.std.specs.Prelude.{◌≡◌, ℕ, ◌+◌, ◌<◌, ◌≤◌, true, List, [], length};
-ghost use Rattle.input.specs.Bytes.{window_of, in_order};
-ghost use Rattle.meaning.specs.Meaning.{parse as meant};
+ghost use Rattle.std.specs.Prelude.{◌≡◌, ◌≤◌, length, Ok};
+ghost use Rattle.input.specs.Bytes.{window_of};
+ghost use Rattle.meaning.specs.Meaning.{parse as meant, root as meant_root};
 ghost use Rattle.sealed.specs.Grammars.{grammar_of};
-ghost use Rattle.engine.specs.Parses.{told, After, leaves, allowed, refused as refused_with, parse_after};
+ghost use Rattle.engine.specs.Parses.{told, After, leaves, allowed, parse_after};
+ghost use Rattle.engine.specs.declared.mode.Mode.TheVariants.{Begins};
 
-use crate::ending::Ending;
-use crate::outcome::{Outcome, Reply};
-use crate::run::run;
+use crate::frame::Frame;
+use crate::mode::Mode;
+use crate::outcome::{Outcome, Refusal};
+use crate::places::{clear, clear_rest, move_nodes, place};
+use crate::setting::Setting;
+use crate::tables::Tables;
 use evaluate::PENDING;
 use fields::FieldReader;
-use frames::Frame;
-use input::{Input, WindowInput};
-use meaning::{Limits, Node, Window};
-use sealed::Sealed;
+use input::{Input, Window, WindowInput};
+use meaning::{Limits, Node, Start, State};
 use stack::Stack;
-use tables::{clear, clear_rest, move_nodes, place};
 
-// Whether a window is in order and not past the end.
-pub(crate) fn ordered(left: usize, right: usize, n: usize) -> bool
-    ensures { result ≡ in_order left right n }
-{
-    left <= right && right <= n
+// What is asked: a window of the input by a rule, in at most so many starts.
+#[derive(Clone, Copy)]
+pub(crate) struct Request {
+    pub(crate) rule: u16,
+    pub(crate) window: Window,
+    pub(crate) budget: u64,
+}
+
+impl<'a, I: Input, R: FieldReader> Setting<'a, I, R> {
+    /// Parses what is asked.
+    pub(crate) fn parse(
+        &self,
+        request: Request,
+        frames: &mut [Frame],
+        nodes: &mut [Node],
+    ) -> Result<Outcome, Refusal>
+        ensures { ◌≡◌ {A = After} (record { outcome = result; frames = frames.new; nodes = nodes.new }) (parse_after (R.FieldReader.meaning self.now.readers.now) (grammar_of self.now.grammar.now) (I.Input.shown self.now.input.now).bytes request.rule request.window.left request.window.right request.budget frames.old nodes.old) }
+    {
+        if usize::from(request.rule) >= self.grammar.rule_count() {
+            return Err(Refusal::UnknownRule);
+        }
+        if !request.window.is_in(self.input.len()) {
+            return Err(Refusal::BadWindow);
+        }
+        if !permitted(request.budget, frames.len(), nodes.len()) {
+            return Err(Refusal::BadLimits);
+        }
+        Ok(self.parse_window(request, frames, nodes))
+    }
+
+    // Parses a window of the input; nothing is refused.
+    fn parse_window(&self, request: Request, frames: &mut [Frame], nodes: &mut [Node]) -> Outcome
+        requires { (request.window.left ≤ request.window.right) × (request.window.right ≤ length (I.Input.shown self.now.input.now).bytes) }
+        ensures { ◌≡◌ {A = After} (record { outcome = Ok result; frames = frames.new; nodes = nodes.new }) (leaves request.window.left (length frames.old) (length nodes.old) (meant (R.FieldReader.meaning self.now.readers.now) (grammar_of self.now.grammar.now) (record { budget = request.budget; frames = length frames.old; nodes = length nodes.old }) request.rule (window_of (I.Input.shown self.now.input.now).bytes request.window.left request.window.right))) }
+    {
+        let outcome = self.run_window(request, frames, nodes);
+        clear(frames);
+        move_nodes(nodes, outcome.nodes, request.window.left);
+        clear_rest(nodes, outcome.nodes);
+        Outcome {
+            reach: place(outcome.reach, request.window.left),
+            ..outcome
+        }
+    }
+
+    // Parses a window of the input, in places of the window; the frame table holds anything then.
+    fn run_window(&self, request: Request, frames: &mut [Frame], nodes: &mut [Node]) -> Outcome
+        ensures told { told result nodes.new ≡ meant (R.FieldReader.meaning self.now.readers.now) (grammar_of self.now.grammar.now) (record { budget = request.budget; frames = length frames.old; nodes = length nodes.old }) request.rule (window_of (I.Input.shown self.now.input.now).bytes request.window.left request.window.right) }
+        ensures count { result.nodes ≤ length nodes.new }
+    {
+        let view = WindowInput::new(self.input, request.window);
+        let setting = Setting {
+            grammar: self.grammar,
+            readers: self.readers,
+            input: &view,
+        };
+        let limits = Limits {
+            budget: request.budget,
+            frames: frames.len(),
+            nodes: nodes.len(),
+        };
+        let mut tables = Tables {
+            limits,
+            stack: Stack::new(frames),
+            nodes,
+            count: 0,
+            state: State::default(),
+        };
+        let mut numbers = [0u64; PENDING];
+        let end = tables.drive(&setting, root(request.rule, view.len()), &mut numbers);
+        let outcome = tables.conclude(end);
+        // What was lent is given back.
+        let Tables {
+            stack: _,
+            nodes: _nodes,
+            ..
+        } = tables;
+        outcome
+    }
 }
 
 // Whether the budget and the tables' lengths are allowed.
-pub(crate) fn permitted(budget: u64, frames: usize, nodes: usize) -> bool
+#[tactic(auto, using(std::proofs::lemmas::Bool::Decides::nat_tests), unfolding(crate::specs::Parses::allowed))]
+fn permitted(budget: u64, frames: usize, nodes: usize) -> bool
     ensures { result ≡ allowed budget frames nodes }
 {
     1 <= budget
@@ -35,108 +111,17 @@ pub(crate) fn permitted(budget: u64, frames: usize, nodes: usize) -> bool
         && nodes <= 65535
 }
 
-pub(crate) fn refuse(answer: Reply) -> Outcome
-    ensures { result ≡ refused_with answer }
+// A rule is begun on all of `len` bytes.
+#[tactic(auto, unfolding(meaning::specs::Meaning::root))]
+fn root(rule: u16, len: usize) -> Mode
+    ensures { result ≡ Begins (meant_root rule len) }
 {
-    Outcome {
-        answer,
-        nodes: 0,
-        starts: 0,
-        reach: Window { left: 0, right: 0 },
-    }
-}
-
-// Parses a window of the input, in places of the window; the frame table holds anything then.
-pub(crate) fn run_window<I: Input, R: FieldReader>(
-    grammar: &Sealed,
-    readers: &R,
-    input: &I,
-    rule: u16,
-    left: usize,
-    right: usize,
-    limits: Limits,
-    frames: &mut [Frame],
-    nodes: &mut [Node],
-) -> Ending
-    requires tables { (limits.frames ≡ length frames.old) × (limits.nodes ≡ length nodes.old) }
-    requires budget { limits.budget ≤ 1000000 }
-    ensures told { told result nodes.new ≡ meant (R.FieldReader.meaning readers.now) (grammar_of grammar.now) limits rule (window_of (I.Input.shown input.now).bytes left right) }
-    ensures count { result.nodes ≤ length nodes.new }
-{
-    let mut numbers = [0u64; PENDING];
-    let view = WindowInput::new(input, left, right);
-    let mut stack = Stack::new(frames);
-    run(
-        grammar,
-        readers,
-        &view,
-        rule,
-        limits,
-        &mut stack,
-        nodes,
-        &mut numbers,
-    )
-}
-
-// Parses a window of the input; nothing is refused.
-pub(crate) fn parse_window<I: Input, R: FieldReader>(
-    grammar: &Sealed,
-    readers: &R,
-    input: &I,
-    rule: u16,
-    left: usize,
-    right: usize,
-    budget: u64,
-    frames: &mut [Frame],
-    nodes: &mut [Node],
-) -> Outcome
-    requires window { (left ≤ right) × (right ≤ length (I.Input.shown input.now).bytes) }
-    requires budget { budget ≤ 1000000 }
-    ensures { ◌≡◌ {A = After} (record { outcome = result; frames = frames.new; nodes = nodes.new }) (leaves left (length frames.old) (length nodes.old) (meant (R.FieldReader.meaning readers.now) (grammar_of grammar.now) (record { budget = budget; frames = length frames.old; nodes = length nodes.old }) rule (window_of (I.Input.shown input.now).bytes left right))) }
-{
-    let limits = Limits {
-        budget,
-        frames: frames.len() as u64,
-        nodes: nodes.len() as u64,
-    };
-    let o = run_window(
-        grammar, readers, input, rule, left, right, limits, frames, nodes,
-    );
-    clear(frames);
-    move_nodes(nodes, o.nodes as usize, left as u64);
-    clear_rest(nodes, o.nodes as usize);
-    Outcome {
-        answer: Reply::Ended(o.answer),
-        nodes: o.nodes,
-        starts: o.starts,
-        reach: place(o.reach, left as u64),
-    }
-}
-
-/// Parses a window of an input by a rule of a grammar.
-pub(crate) fn parse<I: Input, R: FieldReader>(
-    grammar: &Sealed,
-    readers: &R,
-    input: &I,
-    rule: u16,
-    left: usize,
-    right: usize,
-    budget: u64,
-    frames: &mut [Frame],
-    nodes: &mut [Node],
-) -> Outcome
-    ensures { ◌≡◌ {A = After} (record { outcome = result; frames = frames.new; nodes = nodes.new }) (parse_after (R.FieldReader.meaning readers.now) (grammar_of grammar.now) (I.Input.shown input.now).bytes rule left right budget frames.old nodes.old) }
-{
-    if rule as usize >= grammar.rule_count() {
-        return refuse(Reply::UnknownRule);
-    }
-    if !ordered(left, right, input.len()) {
-        return refuse(Reply::BadWindow);
-    }
-    if !permitted(budget, frames.len(), nodes.len()) {
-        return refuse(Reply::BadLimits);
-    }
-    parse_window(
-        grammar, readers, input, rule, left, right, budget, frames, nodes,
-    )
+    Mode::Begins(Start {
+        number: rule,
+        window: Window {
+            left: 0,
+            right: len,
+        },
+        ..Start::default()
+    })
 }

@@ -1,3 +1,3 @@
 pub mod Pushing
-mod Numbers
-mod Worth
+pub mod Numbers
+pub mod Worth

@@ -1,50 +1,39 @@
 -- Numbers taken off a stack.
-use Rattle.std.proofs.Common.{◌≡◌, ℕ, zero, suc, ◌<◌, ◌≤◌, List, [], ◌∷◌, length, get_or, drop, Some, None, Ok, Result, refl, ap, arith}
-use Rattle.stack.specs.declared.refusal.StackRefusal.{StackRefusal}
+use Rattle.std.proofs.Common.{◌≡◌, ℕ, ◌≤◌, List, [], ◌∷◌, length, drop, Some, None, refl, ap, arith}
+use Rattle.std.specs.Result.{result_ok}
 use Rattle.stack.specs.Stacks.{pop_answer}
 use Rattle.operators.specs.Applied.{applied}
-use Rattle.meaning.specs.Values.{Progress, value, nth}
+use Rattle.meaning.specs.Values.{Progress, value}
 use Rattle.operators.specs.declared.Op.{Op}
 use Rattle.meaning.specs.declared.run.Start.{Start}
 use Rattle.sealed.specs.declared.code.Code.{Code}
 use Rattle.sealed.specs.declared.code.Code.TheVariants.{Number, Eoi, Own, OfCall, StartOf, EndOf, Apply, Bracket}
 use Rattle.evaluate.specs.Pending.{leaf_of, operated, latest, next_value, values_left, last_value}
 
-pub nth_at : (xs : List ℕ) (k d : ℕ) → k < length xs → Some (get_or xs k d) ≡ nth xs k
-unfolding nth
-nth_at [] k d h = absurd (omega arith)
-nth_at (x ∷ xs) zero d h = refl
-nth_at (x ∷ xs) (suc k) d h = nth_at xs k d (omega arith)
-
-pub nth_past : (xs : List ℕ) (k : ℕ) → length xs ≤ k → None ≡ nth xs k
-unfolding nth
-nth_past [] k h = refl
-nth_past (x ∷ xs) zero h = absurd (omega arith)
-nth_past (x ∷ xs) (suc k) h = nth_past xs k (omega arith)
-
-pub un_popped : (xs : List ℕ) (r : Result ℕ StackRefusal) → r ≡ pop_answer xs → ((x : ℕ) → r ≡ Ok x → ⊥) → xs ≡ []
-un_popped [] r e h = refl
-un_popped (x ∷ xs) r e h = absurd (h x e)
-
 module _ (op : Op) where
-  pub op_none : (xs : List ℕ) → drop 1 xs ≡ [] → None ≡ operated op xs
+  pub op_gone : (xs : List ℕ) → result_ok (pop_answer xs) ≡ None → None ≡ operated op xs
   unfolding operated
-  op_none [] e = refl
-  op_none (q ∷ []) e = refl
-  op_none (q ∷ p ∷ xs) e = absurd (let z : ◌≡◌ {A = ℕ} 0 1 = cc in omega arith)
+  op_gone [] e = refl
+  op_gone (q ∷ xs) e = absurd (let z : ◌≡◌ {A = ℕ} 0 1 = cc in omega arith)
 
-  pub op_two : (xs : List ℕ) (p q : ℕ) → Ok q ≡ pop_answer xs → Ok p ≡ pop_answer (drop 1 xs) → applied op p q ≡ operated op xs
+  pub op_alone : (xs : List ℕ) → result_ok (pop_answer (drop 1 xs)) ≡ None → None ≡ operated op xs
+  unfolding operated
+  op_alone [] e = refl
+  op_alone (q ∷ []) e = refl
+  op_alone (q ∷ p ∷ xs) e = absurd (let z : ◌≡◌ {A = ℕ} 0 1 = cc in omega arith)
+
+  pub op_two : (xs : List ℕ) (p q : ℕ) → result_ok (pop_answer xs) ≡ Some q → result_ok (pop_answer (drop 1 xs)) ≡ Some p → applied op p q ≡ operated op xs
   unfolding operated
   op_two [] p q e h = absurd (let z : ◌≡◌ {A = ℕ} 0 1 = cc in omega arith)
   op_two (y ∷ []) p q e h = absurd (let z : ◌≡◌ {A = ℕ} 0 1 = cc in omega arith)
   op_two (y ∷ x ∷ xs) p q e h = let a : q ≡ y = cc in let b : p ≡ x = cc in rw (a, b)
 
-pub fin_none : (xs : List ℕ) → xs ≡ [] → None ≡ last_value xs
+pub fin_none : (xs : List ℕ) → result_ok (pop_answer xs) ≡ None → None ≡ last_value xs
 unfolding last_value
 fin_none [] e = refl
 fin_none (x ∷ xs) e = absurd (let z : ◌≡◌ {A = ℕ} 0 1 = cc in omega arith)
 
-pub fin_one : (xs : List ℕ) (v : ℕ) → Ok v ≡ pop_answer xs → length (drop 1 xs) ≡ 0 → Some v ≡ last_value xs
+pub fin_one : (xs : List ℕ) (v : ℕ) → result_ok (pop_answer xs) ≡ Some v → length (drop 1 xs) ≡ 0 → Some v ≡ last_value xs
 unfolding last_value
 fin_one [] v e h = absurd (let z : ◌≡◌ {A = ℕ} 0 1 = cc in omega arith)
 fin_one (x ∷ []) v e h = let a : v ≡ x = cc in ap Some a
@@ -55,6 +44,11 @@ unfolding last_value
 fin_more [] h = refl
 fin_more (x ∷ []) h = absurd (h refl)
 fin_more (x ∷ y ∷ xs) h = refl
+
+pub latest_is : (xs : List ℕ) → result_ok (pop_answer xs) ≡ latest xs
+unfolding latest
+latest_is [] = refl
+latest_is (x ∷ xs) = refl
 
 pub left_length : (code : Code) (xs : List ℕ) → length (values_left code xs) ≤ length xs
 unfolding values_left
@@ -100,13 +94,3 @@ left_part Bracket xs h b = absurd (b refl)
 
 pub left_few : (code : Code) (xs ys : List ℕ) → ys ≡ values_left code xs → length ys ≤ length xs
 left_few code xs ys e = let n = ap length e in omega (arith, left_length code xs)
-
-pub latest_none : (xs : List ℕ) → xs ≡ [] → None ≡ latest xs
-unfolding latest
-latest_none [] e = refl
-latest_none (x ∷ xs) e = absurd (let z : ◌≡◌ {A = ℕ} 0 1 = cc in omega arith)
-
-pub latest_some : (xs : List ℕ) (v : ℕ) → Ok v ≡ pop_answer xs → Some v ≡ latest xs
-unfolding latest
-latest_some [] v e = absurd (let z : ◌≡◌ {A = ℕ} 0 1 = cc in omega arith)
-latest_some (x ∷ xs) v e = let a : v ≡ x = cc in ap Some a

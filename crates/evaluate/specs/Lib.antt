@@ -1,1 +1,2 @@
 pub mod Pending
+pub mod Reached

@@ -1,5 +1,7 @@
 -- Numbers that wait, the latest first, for their operator.
-use Rattle.std.specs.Prelude.{ℕ, List, [], ◌∷◌, drop, Some, None, Option}
+use Rattle.std.specs.Prelude.{◌≡◌, ℕ, List, [], ◌∷◌, drop, Some, None, Option}
+use Rattle.stack.specs.Stacks.{held, room}
+use Rattle.stack.specs.declared.Stack.{Stack}
 use Rattle.meaning.specs.Syntax.{Expr}
 use Rattle.meaning.specs.Syntax.Expr.{number, eoi, own, of_call, start_of, end_of}
 use Rattle.operators.specs.Applied.{applied}
@@ -58,3 +60,9 @@ unfoldable pub last_value : List ℕ → Option ℕ
 last_value [] = None
 last_value (v ∷ []) = Some v
 last_value (v ∷ u ∷ vs) = None
+
+-- a stack is left with these numbers, in the room that it was lent
+pub record LeftAs (before after : Stack ℕ) (numbers : List ℕ) : Type 0 where
+  pub held : held after ≡ numbers
+  pub room : room after ≡ room before
+  pub lender : after.slots.ghost_name ≡ before.slots.ghost_name

@@ -5,7 +5,7 @@ ghost use Rattle.input.specs.Windows.{size, cover};
 use crate::Input;
 
 /// The places from `left` up to but not including `right`.
-#[derive(Clone, Copy, PartialEq, Eq, Debug)]
+#[derive(Clone, Copy, PartialEq, Eq, Debug, Default)]
 pub struct Window {
     pub left: usize,
     pub right: usize,

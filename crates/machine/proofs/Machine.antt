@@ -13,7 +13,7 @@ use Rattle.meaning.specs.declared.answer.Answer.TheVariants.{Budget, Depth, Node
 use Rattle.meaning.specs.declared.run.Limits.{Limits}
 use Rattle.meaning.specs.declared.run.Start.{Start}
 use Rattle.meaning.specs.declared.run.State.{State}
-use Rattle.meaning.specs.declared.window.Window.{Window}
+use Rattle.input.specs.declared.window.Window.{Window}
 use Rattle.machine.specs.Machine.{Frame, Mode, Config, Next, after_term, after_ends, after_field}
 use Rattle.machine.specs.Machine.Mode.{begins, runs, tries, returns, gives_up}
 use Rattle.machine.specs.Machine.Next.{on, over}

@@ -10,7 +10,7 @@ use Rattle.meaning.specs.Runs.Ran.{succeeds, fails, stops}
 use Rattle.meaning.specs.Meaning.{Replies, reads, matches, noted, field, term}
 use Rattle.meaning.specs.declared.run.Start.{Start}
 use Rattle.meaning.specs.declared.run.State.{State}
-use Rattle.meaning.specs.declared.window.Window.{Window}
+use Rattle.input.specs.declared.window.Window.{Window}
 
 abbrev pub after : {A : Type 0} → Ran A → State
 after (succeeds a s) = s

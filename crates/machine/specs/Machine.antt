@@ -11,7 +11,7 @@ use Rattle.meaning.specs.Meaning.{Replies, Tree, nothing_yet, tree, with_call, n
 use Rattle.meaning.specs.declared.run.Limits.{Limits}
 use Rattle.meaning.specs.declared.run.Start.{Start}
 use Rattle.meaning.specs.declared.run.State.{State}
-use Rattle.meaning.specs.declared.window.Window.{Window}
+use Rattle.input.specs.declared.window.Window.{Window}
 
 -- an unfinished start: its alternative's number, the next term's number, what it has come to, and what is left to run
 pub record Frame : Type 0 where

@@ -9,7 +9,8 @@ use Rattle.fields.specs.Fields.{Fields}
 use Rattle.fields.specs.declared.reading.Reading.{Reading}
 use Rattle.meaning.specs.Syntax.{Term, Alternative, Grammar}
 use Rattle.meaning.specs.Syntax.Term.{literal, call, attribute, guard}
-use Rattle.meaning.specs.Windows.{cover, bytes_in}
+use Rattle.input.specs.Windows.{cover}
+use Rattle.meaning.specs.Windows.{bytes_in}
 use Rattle.meaning.specs.Values.{Progress}
 use Rattle.meaning.specs.Runs.{Ran, Run, goes_on, instead, ◌>>=◌, ◌>>◌, ◌or_else◌, need, have}
 use Rattle.meaning.specs.Runs.Ran.{succeeds, fails, stops}
@@ -19,7 +20,7 @@ use Rattle.meaning.specs.declared.answer.Answer.TheVariants.{Budget, Depth, Node
 use Rattle.meaning.specs.declared.run.Limits.{Limits}
 use Rattle.meaning.specs.declared.run.Start.{Start}
 use Rattle.meaning.specs.declared.run.State.{State}
-use Rattle.meaning.specs.declared.window.Window.{Window}
+use Rattle.input.specs.declared.window.Window.{Window}
 use Rattle.meaning.proofs.Readers.{same_front as answers_by_front}
 
 -- ---- windows

@@ -8,7 +8,7 @@ use Rattle.meaning.specs.Meaning.{whole}
 use Rattle.meaning.specs.Shape.{Inside, LiesIn, TermCalls, Proper, Called, Calls, Rooted, Placed, AllPlaced, rule_of}
 use Rattle.meaning.specs.Shape.Calls.{none, one_more}
 use Rattle.meaning.specs.declared.node.Node.{Node}
-use Rattle.meaning.specs.declared.window.Window.{Window}
+use Rattle.input.specs.declared.window.Window.{Window}
 
 within : (u v w : Window) → Inside u v → Inside v w → Inside u w
 within u v w h k = (omega (arith, h.0, k.0), h.1, omega (arith, h.2, k.2))

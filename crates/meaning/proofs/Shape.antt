@@ -9,7 +9,8 @@ use Rattle.fields.specs.declared.reading.Reading.{Reading}
 use Rattle.meaning.specs.Syntax.{Expr, Term, Alternative, Rule, Grammar}
 use Rattle.meaning.specs.Syntax.Expr.{number}
 use Rattle.meaning.specs.Syntax.Term.{literal, call, attribute, guard}
-use Rattle.meaning.specs.Windows.{cover, bytes_in}
+use Rattle.input.specs.Windows.{cover}
+use Rattle.meaning.specs.Windows.{bytes_in}
 use Rattle.meaning.specs.Values.{Progress, if_some, value, ends}
 use Rattle.meaning.specs.Runs.{Ran, Run, goes_on, instead, ◌>>=◌, ◌>>◌, ◌or_else◌, need, have}
 use Rattle.meaning.specs.Runs.Ran.{succeeds, fails, stops}
@@ -22,7 +23,7 @@ use Rattle.meaning.specs.declared.node.Node.{Node}
 use Rattle.meaning.specs.declared.run.Limits.{Limits}
 use Rattle.meaning.specs.declared.run.Start.{Start}
 use Rattle.meaning.specs.declared.run.State.{State}
-use Rattle.meaning.specs.declared.window.Window.{Window}
+use Rattle.input.specs.declared.window.Window.{Window}
 use Rattle.meaning.proofs.Placing.{later, root_placed}
 use Rattle.meaning.proofs.Readers.{used_counted}
 

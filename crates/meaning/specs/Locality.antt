@@ -5,7 +5,7 @@ use Rattle.fields.specs.Fields.{Fields}
 use Rattle.meaning.specs.Syntax.{Grammar}
 use Rattle.meaning.specs.Meaning.{parse, read_of}
 use Rattle.meaning.specs.declared.run.Limits.{Limits}
-use Rattle.meaning.specs.declared.window.Window.{Window}
+use Rattle.input.specs.declared.window.Window.{Window}
 
 -- a place of a window
 abbrev pub Within : ℕ → Window → Type 0

@@ -5,7 +5,8 @@ use Rattle.fields.specs.Fields.{Fields}
 use Rattle.fields.specs.declared.reading.Reading.{Reading}
 use Rattle.meaning.specs.Syntax.{Term, Alternative, Grammar}
 use Rattle.meaning.specs.Syntax.Term.{literal, call, attribute, guard}
-use Rattle.meaning.specs.Windows.{size, left_end, cover, bytes_in}
+use Rattle.input.specs.Windows.{size, cover}
+use Rattle.meaning.specs.Windows.{left_end, bytes_in}
 use Rattle.meaning.specs.Values.{Progress, value, ends}
 use Rattle.meaning.specs.Runs.{Ran, Run, ◌>>=◌, ◌>>◌, ◌or_else◌, need, have}
 use Rattle.meaning.specs.Runs.Ran.{succeeds, fails, stops}
@@ -15,7 +16,7 @@ use Rattle.meaning.specs.declared.node.Node.{Node}
 use Rattle.meaning.specs.declared.run.Limits.{Limits}
 use Rattle.meaning.specs.declared.run.Start.{Start}
 use Rattle.meaning.specs.declared.run.State.{State}
-use Rattle.meaning.specs.declared.window.Window.{Window}
+use Rattle.input.specs.declared.window.Window.{Window}
 
 -- ---- Reach: the smallest window over every byte read
 

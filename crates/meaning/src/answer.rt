@@ -1,8 +1,9 @@
-ghost use Rattle.std.specs.Prelude.{◌≡◌};
 ghost use Rattle.meaning.specs.Answers.{answer_number};
 
+use answers::Numbered;
+
 /// How a parse ended. The last three are its limits: it stopped before a start that one of them forbids.
-#[derive(Clone, Copy, PartialEq, Eq)]
+#[derive(Clone, Copy, PartialEq, Eq, Debug)]
 pub enum Answer {
     Match,
     NoMatch,
@@ -11,11 +12,11 @@ pub enum Answer {
     Nodes,
 }
 
-impl Answer {
-    /// The answer's listed number.
-    pub fn number(self) -> u8
-        ensures { result ≡ answer_number self }
-    {
+// The answer's listed number.
+impl Numbered for Answer {
+    ghost listed = { answer_number };
+
+    fn number(&self) -> u8 {
         match self {
             Answer::Match => 0,
             Answer::NoMatch => 24,

@@ -3,6 +3,7 @@ ghost use Rattle.meaning.specs.Locality.{Locality, Untouched, SameReaders};
 ghost use Rattle.meaning.specs.Shape.{Shape};
 
 /// A parse depends on the bytes inside its reach alone, and on what its readers answer.
+#[tactic(auto, using(crate::proofs::Locality::locality, crate::proofs::Locality::untouched, crate::proofs::Locality::same_readers))]
 pub fn reach_tells_all()
     ensures local { Locality }
     ensures untouched { Untouched }
@@ -10,6 +11,7 @@ pub fn reach_tells_all()
 {}
 
 /// What every outcome looks like, whatever the grammar, readers, limits, rule and bytes.
+#[tactic(auto, using(crate::proofs::Shape::shape))]
 pub fn results_have_shape()
     ensures { Shape }
 {}

@@ -6,9 +6,7 @@ pub mod answer;
 pub mod laws;
 pub mod node;
 pub mod run;
-pub mod window;
 
 pub use answer::Answer;
 pub use node::{Node, find_call};
 pub use run::{Limits, Start, State};
-pub use window::{Window, join};

@@ -1,16 +1,12 @@
-use Rattle.std.proofs.Common.{sym, ◌∙◌}
-use Rattle.meaning.proofs.Calls.{found, passed, none_left}
+use Rattle.std.proofs.Common.{rules, tests, ◌&&◌, ◌==◌, ◌∙◌}
+use Rattle.std.proofs.lemmas.Iterator.{YieldsList-from_slice}
+use Rattle.std.proofs.lemmas.Iterator.Search.{find_from_yields_List}
+use Rattle.meaning.specs.Values.{called}
+use Rattle.meaning.specs.declared.node.Node.{Node}
 use Rattle.meaning.proofs.node.find_call.Goals as goal
-use Rattle.meaning.proofs.node.find_call.Goals.{else-n-caller-via-then-n-caller+else-n-term, else-n-caller-via-else-n-caller}
-
-pub returns-then-n-term : goal.returns-then-n-term
-returns-then-n-term c = sym (found _ _ _ _ _ c.loop-n-test.true c.if-n-caller.true c.if-n-term.true) ∙ c.loop-n.invariant
-
-pub loop-n-preserved : goal.loop-n-preserved
-loop-n-preserved c =
-    passed _ _ _ _ _ c.loop-n-test.true
-    (elim c.else-n-caller.branch [ else-n-caller-via-then-n-caller+else-n-term w ↦ λ p q. w.if-n-term.false q | else-n-caller-via-else-n-caller w ↦ λ p q. w.if-n-caller.false p ])
-    ∙ c.loop-n.invariant
 
 pub returns : goal.returns
-returns c = sym (none_left _ _ _ _ c.loop-n-test.false) ∙ c.loop-n.invariant
+unfolding called
+returns c =
+    c.copied.ensures
+    ∙ find_from_yields_List (λ (n : Node). n.parent == c.args.caller && n.term == c.args.term) _ _ _ c.find.ensures.ran (YieldsList-from_slice c.args.below.now cc) (λ x b q k. search (rules, tests))

@@ -1,0 +1,49 @@
+-- Tables that are blanked, entry by entry.
+use Rattle.std.proofs.Common.{◌≡◌, ℕ, ◌+◌, ◌-◌, ◌<◌, ◌≤◌, List, [], ◌∷◌, ◌++◌, map, length, get_or, take, drop, set, replicate, sym, ap, ◌∙◌, append_assoc, add-zero, arith, take-append-drop}
+use Rattle.meaning.specs.declared.node.Node.{Node}
+use Rattle.input.specs.declared.window.Window.{Window}
+use Rattle.engine.specs.Blanks.{blank_node}
+use Rattle.engine.specs.Places.{placed, absolute, NodeFits}
+use Rattle.std.proofs.lemmas.List.{take_more_set, replicate_more, take_all, map_more, drop-set-lt, drop-drop, get_or-drop, get_or_default}
+
+module _ {X : Type 0} (y : X) where
+  pub blank_more : (xs : List X) (i : ℕ) → i < length xs → take i xs ≡ replicate i y → take (i + 1) (set xs i y) ≡ replicate (i + 1) y
+  blank_more xs i h e = take_more_set xs i y h ∙ ap (λ z. z ++ y ∷ []) e ∙ replicate_more i y
+
+  pub blank_all : (xs : List X) (i n : ℕ) → length xs ≤ i → i ≡ n → take i xs ≡ replicate i y → xs ≡ replicate n y
+  blank_all xs i n h q e = sym (take_all i xs h) ∙ e ∙ ap (λ k. replicate k y) q
+
+  pub rest_more : (xs es : List X) (i k : ℕ) → i < length xs → k ≤ i → take i xs ≡ take k es ++ replicate (i - k) y → take (i + 1) (set xs i y) ≡ take k es ++ replicate (i + 1 - k) y
+  rest_more xs es i k h l e =
+      let z : i - k + 1 ≡ i + 1 - k = omega arith in
+      take_more_set xs i y h ∙ ap (λ u. u ++ y ∷ []) e ∙ append_assoc (take k es) (replicate (i - k) y) (y ∷ [])
+      ∙ ap (λ u. take k es ++ u) (replicate_more (i - k) y ∙ ap (λ j. replicate j y) z)
+
+  pub rest_all : (xs es : List X) (i k n : ℕ) → length xs ≤ i → i ≡ n → take i xs ≡ take k es ++ replicate (i - k) y → xs ≡ take k es ++ replicate (n - k) y
+  rest_all xs es i k n h q e = sym (take_all i xs h) ∙ e ∙ ap (λ j. take k es ++ replicate (j - k) y) q
+
+module _ {X : Type 0} (f : X → X) (xs es : List X) (i : ℕ) (done : take i xs ≡ map f (take i es)) (rest : drop i xs ≡ drop i es) where
+  pub same_here : (d : X) → get_or xs i d ≡ get_or es i d
+  same_here d =
+      let z : i + 0 ≡ i = add-zero i in
+      ap (λ j. get_or xs j d) (sym z) ∙ sym (get_or-drop i xs 0 d) ∙ ap (λ l. get_or l 0 d) rest ∙ get_or-drop i es 0 d ∙ ap (λ j. get_or es j d) z
+
+  pub map_next : (y d : X) → i < length xs → i < length es → y ≡ f (get_or xs i d) → take (i + 1) (set xs i y) ≡ map f (take (i + 1) es)
+  map_next y d h k e = take_more_set xs i y h ∙ ap (λ z. z ++ y ∷ []) done ∙ ap (λ z. map f (take i es) ++ z ∷ []) (e ∙ ap f (same_here d)) ∙ sym (map_more f es i d k)
+
+  pub rest_next : (y : X) → drop (i + 1) (set xs i y) ≡ drop (i + 1) es
+  rest_next y = drop-set-lt (i + 1) xs i y (omega arith) ∙ sym (drop-drop 1 i xs) ∙ ap (drop 1) rest ∙ drop-drop 1 i es
+
+  pub map_all : (k : ℕ) → i ≡ k → xs ≡ map f (take k es) ++ drop k es
+  map_all k e = sym (take-append-drop i xs) ∙ ap (λ z. z ++ drop i xs) done ∙ ap (λ z. map f (take i es) ++ z) rest ∙ ap (λ j. map f (take j es) ++ drop j es) e
+
+pub fits_now : (xs es : List Node) (i left : ℕ) (d : Node) → drop i xs ≡ drop i es → i < length es → NodeFits left (get_or es i blank_node) → NodeFits left (get_or xs i d)
+fits_now xs es i left d rest h fit =
+    let z : i + 0 ≡ i = add-zero i in
+    let e : get_or xs i d ≡ get_or es i blank_node =
+    ap (λ j. get_or xs j d) (sym z) ∙ sym (get_or-drop i xs 0 d) ∙ ap (λ l. get_or l 0 d) rest ∙ get_or-drop i es 0 d ∙ ap (λ j. get_or es j d) z ∙ get_or_default es i d blank_node h in
+    rw e fit
+
+pub absolute_is : (n : Node) (left : ℕ) (w u : Window) → w ≡ placed left n.window → u ≡ placed left n.used
+    → ◌≡◌ {A = Node} (record { number = n.number; alternative = n.alternative; parent = n.parent; term = n.term; window = w; used = u; slots = n.slots }) (absolute left n)
+absolute_is n left w u e q = rw (e, q)

@@ -1,0 +1,71 @@
+ghost use Rattle.std.specs.Prelude.{◌≡◌, ℕ, ◌<◌, ◌≤◌, List, length};
+ghost use Rattle.meaning.specs.Meaning.{field};
+ghost use Rattle.stack.specs.Stacks.{held};
+ghost use Rattle.sealed.specs.Grammars.{grammar_of};
+ghost use Rattle.engine.specs.Configs.{Inside, Fielded};
+ghost use Rattle.engine.specs.Steps.{subject, SoundAt, Goes, Kept, Answers};
+ghost use Rattle.engine.specs.declared.mode.Mode.TheVariants.{Begins};
+
+use crate::mode::Mode;
+use crate::setting::Setting;
+use crate::tables::Tables;
+use fields::FieldReader;
+use input::{Input, Window};
+use meaning::{Answer, Start};
+
+impl<'a> Tables<'a> {
+    // A start is let through and made, or stops the parse.
+    #[tactic(auto, using(sealed::proofs::Grammars::few_terms, crate::proofs::Beginning::no_budget, crate::proofs::Beginning::no_frame, crate::proofs::Beginning::no_node, crate::proofs::Beginning::begins_rule), unfolding(crate::specs::Configs::Sound))]
+    pub(crate) fn begin<I: Input, R: FieldReader>(
+        &mut self,
+        setting: &Setting<I, R>,
+        c: Start,
+    ) -> Mode
+        requires { SoundAt (subject I.Input.shown R.FieldReader.meaning setting.now) self.old (Begins c) }
+        ensures goes { Goes (subject I.Input.shown R.FieldReader.meaning setting.now) self.old (Begins c) self.new result }
+        ensures kept { Kept self.old self.new }
+    {
+        if self.state.starts == self.limits.budget {
+            return Mode::Stopped(Answer::Budget);
+        }
+        if self.limits.frames <= self.stack.depth() {
+            return Mode::Stopped(Answer::Depth);
+        }
+        if c.node == self.limits.nodes {
+            return Mode::Stopped(Answer::Nodes);
+        }
+        self.state.starts += 1;
+        if c.number < 32 {
+            Mode::Tries(c, 0, 0)
+        } else {
+            self.read_field(setting, c)
+        }
+    }
+
+    // A reader is asked for its field.
+    fn read_field<I: Input, R: FieldReader>(&mut self, setting: &Setting<I, R>, c: Start) -> Mode
+        requires node { c.node < length self.old.nodes.now }
+        requires window { Inside (grammar_of setting.now.grammar.now) (I.Input.shown setting.now.input.now).bytes c }
+        ensures answers { Answers (subject I.Input.shown R.FieldReader.meaning setting.now) self.old c self.new result }
+        ensures kept { Kept self.old self.new }
+        ensures stack { held self.new.stack ≡ held self.old.stack }
+    {
+        let w = c.window;
+        match setting.readers.read(c.number, setting.input, w) {
+            Some(v) => {
+                let used = Window {
+                    right: w.left + v.used,
+                    ..w
+                };
+                self.nodes[c.node] = c.done(0, used, [v.value, 0, 0, 0, 0, 0, 0, 0]);
+                self.state.reach = self.state.reach.join(used);
+                self.count = c.node + 1;
+                Mode::Returns(c.node)
+            }
+            None => {
+                self.state.reach = self.state.reach.join(w);
+                Mode::GivesUp(c.node)
+            }
+        }
+    }
+}
