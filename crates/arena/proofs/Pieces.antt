@@ -1,8 +1,9 @@
 -- Parts of lists.
-use Rattle.std.proofs.Common.{◌≡◌, ℕ, zero, suc, ◌-◌, ◌≤◌, List, [], ◌∷◌, ◌++◌, map, length, take, drop, sym, ap, ◌∙◌, arith, length-append, length-drop, length-take}
+use Rattle.std.proofs.Common.{◌≡◌, ◌-◌, ◌≤◌, List, ◌++◌, map, length, take, drop, sym, ap, ◌∙◌, ⊎_elim, arith, length-append, length-drop, length-take}
 use lib.Seq.{take-append-le}
 use Rattle.std.proofs.Math.Seq.{drop-append_seam}
-use Rattle.std.proofs.lemmas.List.{take_all, take-map, drop-map}
+use Rattle.std.proofs.lemmas.Bool.Decides.{leb_tells}
+use Rattle.std.proofs.lemmas.List.{take_all, take-map, drop-map, drop-append-le}
 use Rattle.arena.specs.Parts.{part}
 use Rattle.arena.specs.declared.span.Span.{Span}
 
@@ -21,15 +22,11 @@ part_new xs ys s from to =
 
 -- a part of what stood before
 pub part_kept : {X : Type 0} (xs ys : List X) (s : Span) → s.to ≤ length xs → part s (xs ++ ys) ≡ part s xs
-part_kept {X} xs ys s h = go s.from s.to xs h
-  where
-    go : (a b : ℕ) (xs : List X) → b ≤ length xs → take (b - a) (drop a (xs ++ ys)) ≡ take (b - a) (drop a xs)
-    go zero b xs h = take-append-le (b - 0) xs ys (omega arith)
-    go (suc a) b [] h = ap (λ n. take n (drop (suc a) ys)) none ∙ sym (ap (λ n. take n (drop {A = X} (suc a) [])) none)
-      where
-        none : b - suc a ≡ 0
-        none = omega arith
-    go (suc a) b (x ∷ xs) h = ap (λ n. take n (drop a (xs ++ ys))) less ∙ go a (b - 1) xs (omega arith) ∙ sym (ap (λ n. take n (drop a xs)) less)
-      where
-        less : b - suc a ≡ b - 1 - a
-        less = omega arith
+part_kept xs ys s h =
+    ⊎_elim
+    (λ t. let inside = t.1 in
+    ap (take (s.to - s.from)) (drop-append-le s.from xs ys inside) ∙ take-append-le (s.to - s.from) (drop s.from xs) ys (simp length-drop (omega arith)))
+    (λ t. let past = t.1 in
+    let none : s.to - s.from ≡ 0 = omega arith in
+    ap (λ n. take n (drop s.from (xs ++ ys))) none ∙ sym (ap (λ n. take n (drop s.from xs)) none))
+    (leb_tells s.from (length xs))
