@@ -111,5 +111,5 @@ fn last_number(stack: &mut Stack<u64>) -> Option<u64>
     ensures lender { stack.new.slots.ghost_name ≡ stack.old.slots.ghost_name }
 {
     let v = stack.pop().ok()?;
-    if stack.depth() == 0 { Some(v) } else { None }
+    (stack.depth() == 0).then_some(v)
 }
