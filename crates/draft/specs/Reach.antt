@@ -17,9 +17,7 @@ code_end (entry.guard s) = s.to
 
 abbrev pub bytes_end : Entry → ℕ
 bytes_end (entry.literal s e) = s.to
-bytes_end (entry.call w e) = 0
-bytes_end (entry.attribute p w s) = 0
-bytes_end (entry.guard s) = 0
+bytes_end _ = 0
 
 abbrev pub span_end : Span → ℕ
 span_end s = s.to

@@ -19,8 +19,7 @@ refused_number refused.Limit = 5
 
 -- 0 where no place is told
 abbrev pub refused_place : Refused → ℕ
-refused_place refused.TooLong = 0
 refused_place (refused.Token p) = p
 refused_place (refused.Form p) = p
 refused_place (refused.Deep p) = p
-refused_place refused.Limit = 0
+refused_place _ = 0

@@ -13,9 +13,8 @@ use Rattle.rule.specs.Form.{RuleTree}
 
 -- ---- the tree of a piece of code: parts wait on a stack for their operator
 abbrev pub joined : List Tree → (Tree → Tree → Tree) → List Tree
-joined [] f = tree.eoi ∷ []
-joined (r ∷ []) f = tree.eoi ∷ []
 joined (r ∷ l ∷ ts) f = f l r ∷ ts
+joined _ f = tree.eoi ∷ []
 
 abbrev pub wrapped : List Tree → List Tree
 wrapped [] = tree.eoi ∷ []

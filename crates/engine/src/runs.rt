@@ -11,13 +11,12 @@ use crate::frame::Frame;
 use crate::mode::Mode;
 use crate::setting::Setting;
 use crate::tables::Tables;
-use crate::terms::{put_slot, same_at};
-use arena::{Ends, Span};
+use crate::terms::same_at;
+use arena::{Ends, Span, Term, write_at};
 use evaluate::PENDING;
 use fields::FieldReader;
 use input::Input;
 use meaning::Start;
-use sealed::Term;
 
 impl<'a> Tables<'a> {
     // An unfinished start runs its next term.
@@ -85,7 +84,8 @@ impl<'a> Tables<'a> {
             return f.next_try();
         };
         let mut node = self.nodes[f.what.node];
-        put_slot(&mut node.slots, k, v);
+        // an attribute that there is no slot for is not set
+        write_at(&mut node.slots, k, v);
         self.nodes[f.what.node] = node;
         Mode::Runs(f.onward(f.used))
     }

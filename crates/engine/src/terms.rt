@@ -1,4 +1,4 @@
-ghost use Rattle.std.specs.Prelude.{◌≡◌, ◌+◌, ◌<◌, ◌≤◌, length, slice_set};
+ghost use Rattle.std.specs.Prelude.{◌≡◌, ◌+◌, ◌<◌, ◌≤◌, length};
 ghost use Rattle.meaning.specs.Meaning.{same};
 ghost use Rattle.meaning.specs.Values.{value as value_of, ends as ends_at};
 ghost use Rattle.meaning.specs.Windows.{bytes_in};
@@ -47,15 +47,22 @@ impl<'a> Tables<'a> {
         ensures { result ≡ ends_at f.what (so_of self.now.nodes.now self.now.count f) (expr_in grammar.now ends.left) (expr_in grammar.now ends.right) }
     {
         let window = f.what.window;
-        let left = self.value_of(grammar, ends.left, f, numbers)? as usize;
-        let right = self.value_of(grammar, ends.right, f, numbers)? as usize;
-        let within = Window { left, right };
+        let Some(left) = self.value_of(grammar, ends.left, f, numbers) else {
+            return None;
+        };
+        let Some(right) = self.value_of(grammar, ends.right, f, numbers) else {
+            return None;
+        };
+        let within = Window {
+            left: left as usize,
+            right: right as usize,
+        };
         if !within.is_in(window.len()) {
             return None;
         }
         Some(Window {
-            left: window.left + left,
-            right: window.left + right,
+            left: window.left + within.left,
+            right: window.left + within.right,
         })
     }
 }
@@ -71,13 +78,4 @@ pub(crate) fn same_at<I: Input>(input: &I, w: Window, bytes: &[u8]) -> bool
         }
     }
     true
-}
-
-// An attribute is set; one that there is no slot for is not.
-pub(crate) fn put_slot(slots: &mut [u64], k: usize, v: u64)
-    ensures { slots.new ≡ slice_set slots.old k v }
-{
-    if k < slots.len() {
-        slots[k] = v;
-    }
 }

@@ -3,11 +3,11 @@ use crate::outcome::{Outcome, Refusal};
 use crate::parse::Request;
 use crate::setting::Setting;
 use answers::Numbered;
-use arena::{Ends, Span};
+use arena::{Ends, Span, Term};
 use fields::Builtin;
 use input::{SliceInput, Window};
 use meaning::Node;
-use sealed::{Code, Sealed, Term};
+use sealed::{Code, Sealed};
 use std::alloc::Global;
 
 // One rule with one alternative: "ab" at its left end, then a `u8` up to EOI.

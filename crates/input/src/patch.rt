@@ -5,13 +5,13 @@ use crate::refusal::Refusal;
 use arrayvec::ArrayVec;
 
 /// The most bytes of a patch.
-const LONGEST: usize = 8;
+const LONGEST_PATCH: usize = 8;
 
 /// An entry of the patch table: some bytes, and the place from which they are shown. A blank one has no bytes.
 #[derive(Default, Drop)]
 pub struct Patch {
     place: usize,
-    bytes: ArrayVec<u8, LONGEST>,
+    bytes: ArrayVec<u8, LONGEST_PATCH>,
 }
 
 impl Patch {

@@ -34,17 +34,13 @@ rule_names rs = map (λ r. r.name) rs
 -- ---- the names of terms
 -- the name that a term calls
 abbrev pub called : TermTree → Option (List ℕ)
-called (term.literal bs a b) = None
 called (term.call w a b) = Some w
-called (term.attribute p w e) = None
-called (term.guard e) = None
+called _ = None
 
 -- the name of the attribute that a term sets
 abbrev pub sets : TermTree → Option (List ℕ)
-sets (term.literal bs a b) = None
-sets (term.call w a b) = None
 sets (term.attribute p w e) = Some w
-sets (term.guard e) = None
+sets _ = None
 
 -- ---- slots: the different attribute names of a rule in the order of their first standing
 -- one name more

@@ -9,10 +9,10 @@ ghost use Rattle.names.specs.Names.{attribute_is};
 ghost use Rattle.names.specs.Stored.{head_names, called_entry, sets_entry, is_name};
 ghost use Rattle.lookup.specs.Lookup.{place_in, latest_in, among, callee};
 
-use arena::Arena;
+use arena::{Arena, Term};
 use fields::reader_number;
 use names::is_attribute;
-use term::{Rule, Term};
+use term::{NamedTerm, Rule};
 
 /// The number of the rule that has the name.
 pub fn rule_number(rules: &[Rule], name: &[u8]) -> Option<usize>
@@ -32,24 +32,21 @@ pub fn callee(rules: &Arena<Rule, 33>, name: &[u8]) -> Option<u16>
 }
 
 // Whether a term is a call of the name.
-fn calls(term: &Term, name: &[u8]) -> bool
+fn calls(term: &NamedTerm, name: &[u8]) -> bool
     ensures { result ≡ is_name (called_entry (entry term.now)) name.now }
 {
-    match term {
-        Term::Call(other, _) => other.bytes() == name,
-        _ => false,
-    }
+    matches!(term, Term::Call(other, _) if other.bytes() == name)
 }
 
 /// The place of the latest call of the name.
-pub fn latest_call(terms: &[Term], name: &[u8]) -> Option<usize>
+pub fn latest_call(terms: &[NamedTerm], name: &[u8]) -> Option<usize>
     ensures { result ≡ latest_in (map called_entry (map entry terms.now)) name.now }
 {
     terms.iter().rposition(|term| calls(term, name))
 }
 
 /// Whether one of the terms sets the attribute.
-pub fn sets_attribute(terms: &[Term], name: &[u8]) -> bool
+pub fn sets_attribute(terms: &[NamedTerm], name: &[u8]) -> bool
     ensures named { result ≡ list_any (attribute_is name.now) (map entry terms.now) }
     ensures set { result ≡ among (map sets_entry (map entry terms.now)) name.now }
 {

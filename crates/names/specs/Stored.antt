@@ -9,17 +9,13 @@ head_names hs = map (λ h. h.name) hs
 
 -- the name that a stored term calls
 abbrev pub called_entry : Entry → Option (List ℕ)
-called_entry (entry.literal s e) = None
 called_entry (entry.call w e) = Some w
-called_entry (entry.attribute p w s) = None
-called_entry (entry.guard s) = None
+called_entry _ = None
 
 -- the name of the attribute that a stored term sets
 abbrev pub sets_entry : Entry → Option (List ℕ)
-sets_entry (entry.literal s e) = None
-sets_entry (entry.call w e) = None
 sets_entry (entry.attribute p w s) = Some w
-sets_entry (entry.guard s) = None
+sets_entry _ = None
 
 -- whether there is a name, and it is w
 abbrev pub is_name : Option (List ℕ) → List ℕ → Bool

@@ -6,7 +6,8 @@ ghost use Rattle.std.specs.List.{list_any};
 ghost use Rattle.term.specs.Tables.{head, entry};
 ghost use Rattle.names.specs.Names.{rule_is, attribute_is, reserved};
 
-use term::{Rule, Term};
+use arena::Term;
+use term::{NamedTerm, Rule};
 
 /// Whether no attribute may have the name, since it is that of an end of a call.
 pub fn is_reserved(name: &[u8]) -> bool
@@ -23,11 +24,8 @@ pub fn rule_named(rules: &[Rule], name: &[u8]) -> bool
 }
 
 /// Whether a term sets the attribute of the name.
-pub fn is_attribute(term: &Term, name: &[u8]) -> bool
+pub fn is_attribute(term: &NamedTerm, name: &[u8]) -> bool
     ensures { result ≡ attribute_is name.now (entry term.now) }
 {
-    match term {
-        Term::Attribute(other, _, _) => other.bytes() == name,
-        _ => false,
-    }
+    matches!(term, Term::Attribute((other, _), _) if other.bytes() == name)
 }

@@ -9,7 +9,7 @@ use Rattle.arena.proofs.Pieces.{part_short, part_map}
 use Rattle.meaning.specs.Syntax as syntax
 use Rattle.sealed.specs.Grammars.{term_in, terms_of, alternatives_of, grammar_of, terms_in}
 use Rattle.sealed.specs.declared.grammar.Sealed.{Sealed}
-use Rattle.sealed.specs.declared.term.Term.{Term}
+use Rattle.sealed.specs.Grammars.{Term}
 
 module _ {X Y : Type 0} (f : X → Y) (xs : List X) (k : ℕ) (e : Y) where
   map_some : (x : X) → slice_get xs k ≡ Some x → get_or (map f xs) k e ≡ f x

@@ -7,8 +7,12 @@ use Rattle.arena.specs.Parts.{part}
 use Rattle.sealed.specs.declared.code.Code.{Code}
 use Rattle.sealed.specs.declared.grammar.Sealed.{Sealed}
 use Rattle.arena.specs.declared.span.Span.{Span}
-use Rattle.sealed.specs.declared.term.Term.{Term}
-use Rattle.sealed.specs.declared.term.Term.TheVariants.{Literal, Call, Attribute, Guard}
+use Rattle.arena.specs.declared.term.Term.{Term as TermBy}
+use Rattle.arena.specs.declared.term.Term.TheVariants.{Literal, Call, Attribute, Guard}
+
+-- what is called goes by its number, an attribute by its slot
+abbrev pub Term : Type 0
+Term = TermBy ℕ ℕ
 
 -- a term, whose expressions are parts of the code, and a literal's bytes a part of the bytes
 abbrev pub term_of : List Code → List ℕ → Term → syntax.Term

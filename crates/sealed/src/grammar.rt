@@ -1,8 +1,7 @@
 ghost use Rattle.std.specs.Prelude.{◌≤◌, vec_len};
 
 use crate::code::Code;
-use crate::term::Term;
-use arena::Span;
+use arena::{Span, Term};
 
 pub mod calls;
 pub mod make;
@@ -12,7 +11,8 @@ pub mod make;
 pub struct Sealed {
     pub rules: Vec<Span>,
     pub alternatives: Vec<Span>,
-    pub terms: Vec<Term>,
+    /// What is called is a rule's number, or from 32 on a field reader's; an attribute goes by its slot.
+    pub terms: Vec<Term<u16, usize>>,
     pub bytes: Vec<u8>,
     pub code: Vec<Code>,
     ghost few_rules: { vec_len rules ≤ 32 },

@@ -4,8 +4,6 @@
 
 pub mod code;
 pub mod grammar;
-pub mod term;
 
 pub use code::Code;
 pub use grammar::Sealed;
-pub use term::Term;

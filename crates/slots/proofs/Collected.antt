@@ -16,8 +16,8 @@ use Rattle.code.specs.declared.name.Name.{Name}
 use Rattle.code.specs.Pieces.{Piece}
 use Rattle.term.specs.declared.arenas.Arenas.{Arenas}
 use Rattle.term.specs.declared.arenas.Rule.{Rule}
-use Rattle.term.specs.declared.arenas.Term.{Term}
-use Rattle.term.specs.declared.arenas.Term.TheVariants as term
+use Rattle.term.specs.Tables.{Term}
+use Rattle.arena.specs.declared.term.Term.TheVariants as term
 use Rattle.term.specs.Form.{TermTree}
 use Rattle.term.specs.Tables.{entry, head, tables}
 use Rattle.draft.specs.Shown.{shown_term, alternatives_of, shown_rule}
@@ -90,10 +90,10 @@ abbrev pub note_part : List Term → List (List ℕ) → Span → List (List ℕ
 note_part ts seen s = fold note_one seen (part s ts)
 
 -- a term that is no attribute sets nothing
-pub unset : (t : Term) → ((n : Name) (p : ℕ) (s : Span) → t ≡ term.Attribute n p s → ⊥) → sets_entry (entry t) ≡ None
+pub unset : (t : Term) → ((a : Name × ℕ) (s : Span) → t ≡ term.Attribute a s → ⊥) → sets_entry (entry t) ≡ None
 unset (term.Literal s e) other = refl
 unset (term.Call n e) other = refl
-unset (term.Attribute n p s) other = absurd (other n p s refl)
+unset (term.Attribute a s) other = absurd (other a s refl)
 unset (term.Guard s) other = refl
 
 module _ (seen : List (List ℕ)) (ts : List Term) (i : ℕ) (t : Term) (was : List (List ℕ)) (h : i < length ts) (is : t ≡ get_or ts i t) (front : was ≡ take 9 (fold note_one seen (take i ts))) where

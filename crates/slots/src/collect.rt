@@ -5,7 +5,8 @@ ghost use Rattle.lookup.specs.Lookup.{slots_of};
 ghost use Rattle.slots.specs.Tables.{listed};
 
 use super::table::Slots;
-use term::{Arenas, Rule, Term};
+use arena::Term;
+use term::{Arenas, Rule};
 
 /// The slots of a rule, nine at most.
 pub fn slots_of(arenas: &Arenas, rule: &Rule) -> Slots
@@ -15,7 +16,7 @@ pub fn slots_of(arenas: &Arenas, rule: &Rule) -> Slots
     let alternatives = rule.alternatives.of(arenas.alternatives.as_slice());
     for alternative in alternatives {
         for term in alternative.of(arenas.terms.as_slice()) {
-            if let Term::Attribute(name, _, _) = term {
+            if let Term::Attribute((name, _), _) = term {
                 slots.note(name);
             }
         }

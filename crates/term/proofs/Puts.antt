@@ -6,7 +6,7 @@ use Rattle.code.specs.Pieces.{Piece}
 use Rattle.expr.specs.Trees.{Tree}
 use Rattle.expr.specs.Reading.{Grew}
 use Rattle.arena.specs.declared.span.Span.{Span}
-use Rattle.term.specs.declared.arenas.Term.{Term}
+use Rattle.term.specs.Tables.{Term}
 use Rattle.term.specs.Form.{TermTree}
 use Rattle.term.specs.Form as tree
 use Rattle.term.specs.Tables.{Tables, Entry, entry, Head, Kept, Front, code_after, emit_term}

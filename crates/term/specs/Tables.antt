@@ -8,12 +8,17 @@ use Rattle.term.specs.declared.arenas.Arenas.{Arenas}
 use Rattle.arena.specs.declared.span.Ends.{Ends}
 use Rattle.term.specs.declared.arenas.Rule.{Rule}
 use Rattle.arena.specs.declared.span.Span.{Span}
-use Rattle.term.specs.declared.arenas.Term.{Term}
-use Rattle.term.specs.declared.arenas.Term.TheVariants as term
+use Rattle.arena.specs.declared.term.Term.{Term as TermBy}
+use Rattle.arena.specs.declared.term.Term.TheVariants as term
+use Rattle.code.specs.declared.name.Name.{Name}
 use Rattle.term.specs.Form.{TermTree}
 use Rattle.term.specs.Form as tree
 
--- a term as it is stored
+-- a term as it was read: calls and attributes go by name, an attribute's with its place
+abbrev pub Term : Type 0
+Term = TermBy Name (Name × ℕ)
+
+-- what it says
 pub data Entry : Type 0 where
   literal : Span → Ends → Entry
   call : List ℕ → Ends → Entry
@@ -23,7 +28,7 @@ pub data Entry : Type 0 where
 abbrev pub entry : Term → Entry
 entry (term.Literal s e) = literal s e
 entry (term.Call n e) = call (letters n) e
-entry (term.Attribute n p s) = attribute p (letters n) s
+entry (term.Attribute a s) = attribute a.1 (letters a.0) s
 entry (term.Guard s) = guard s
 
 -- a rule as it is stored: its name, the name's place, its part of the alternatives

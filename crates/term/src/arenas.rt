@@ -1,19 +1,12 @@
 ghost use Rattle.std.specs.Prelude.{◌≡◌, IfOk};
 ghost use Rattle.term.specs.Tables.{tables, blank};
 
-use arena::{Arena, Ends, Span};
+use arena::{Arena, Span, Term};
 use code::{Code, Name};
 use std::alloc::{AllocError, Global};
 
-/// A term, whose expressions are parts of the code, and a literal's bytes a part of the bytes.
-#[derive(Clone, PartialEq, Eq, Debug, Drop)]
-pub enum Term {
-    Literal(Span, Ends),
-    Call(Name, Ends),
-    // its name, the name's place in the text, its value
-    Attribute(Name, usize, Span),
-    Guard(Span),
-}
+/// A term as it was read: calls and attributes go by name, an attribute's with its place in the text.
+pub type NamedTerm = Term<Name, (Name, usize)>;
 
 /// A rule: its name, the name's place in the text, and its part of the alternatives.
 #[derive(Clone, PartialEq, Eq, Debug, Drop)]
@@ -28,7 +21,7 @@ pub struct Rule {
 pub struct Arenas {
     pub rules: Arena<Rule, 33>,
     pub alternatives: Arena<Span, 97>,
-    pub terms: Arena<Term, 257>,
+    pub terms: Arena<NamedTerm, 257>,
     pub bytes: Arena<u8, 513>,
     pub code: Arena<Code, 1025>,
 }

@@ -11,7 +11,7 @@ ghost use Rattle.term.specs.Form.{expr_at, equals_at, range_at, literal_at, call
 ghost use Rattle.term.specs.Tables.{tables, emit_term};
 ghost use Rattle.term.specs.Reading.{Spanned, Ranged, Adds};
 
-use arena::{Arena, Ends, Span};
+use arena::{Arena, Ends, Span, Term};
 use code::{Code, Name};
 use expr::{Refusal, expression, mark, name, take};
 use operators::Op;
@@ -20,7 +20,7 @@ use token::{Mark, Token, Tokens};
 
 mod arenas;
 
-pub use arenas::{Arenas, Rule, Term};
+pub use arenas::{Arenas, NamedTerm, Rule};
 
 // How deep the brackets of an expression nest at most.
 const DEPTH: usize = 16;
@@ -90,11 +90,11 @@ fn attribute(tokens: &mut Tokens, out: &mut Arenas) -> Result<(), Refusal>
     ensures told { Adds result (attribute_at tokens.old.end tokens.old.left) tokens.new.left emit_term (tables out.old) (tables out.new) }
     ensures moves { OnOk result (Advances tokens.old tokens.new) }
 {
-    let (called, place) = name(tokens)?;
+    let called = name(tokens)?;
     equals(tokens)?;
     let span = value(tokens, &mut out.code)?;
     mark(tokens, Mark::CloseCurly)?;
-    out.terms.put(Term::Attribute(called, place, span));
+    out.terms.put(Term::Attribute(called, span));
     Ok(())
 }
 

@@ -1,6 +1,6 @@
 use Rattle.std.proofs.Common.{◌≡◌, ℕ, ◌<◌, true, false, length, get_or, IfSome, IfNone, rules, sym, ap, ◌∙◌}
 use Rattle.std.proofs.iter.runs.Made.{chains}
-use Rattle.term.specs.declared.arenas.Term.{Term}
+use Rattle.term.specs.Tables.{Term}
 use Rattle.term.specs.Tables.{entry}
 use Rattle.names.specs.Stored.{called_entry, is_name}
 use Rattle.lookup.specs.Lookup.{latest_in}

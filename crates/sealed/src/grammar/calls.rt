@@ -4,8 +4,7 @@ ghost use Rattle.sealed.specs.Grammars.{grammar_of, term_in, terms_of};
 
 use super::Sealed;
 use crate::code::Code;
-use crate::term::Term;
-use arena::Span;
+use arena::{Span, Term};
 
 impl Sealed {
     /// How many rules there are.
@@ -38,7 +37,7 @@ impl Sealed {
 
     /// The term at a place of the `i`-th alternative of a rule, if there is one.
     #[tactic(auto, using(crate::proofs::Grammars::term_none, crate::proofs::Grammars::term_some))]
-    pub fn term(&self, rule: u16, i: usize, place: usize) -> Option<Term>
+    pub fn term(&self, rule: u16, i: usize, place: usize) -> Option<Term<u16, usize>>
         ensures { option_map (term_in self.now) result ≡ slice_get (slice_index_or (slice_index_or (grammar_of self.now) rule []) i []) place }
     {
         let span = self.alternatives_of(rule).get(i)?;

@@ -3,15 +3,14 @@ ghost use Rattle.sealed.specs.Limits.{in_limits};
 
 use super::Sealed;
 use crate::code::Code;
-use crate::term::Term;
-use arena::Span;
+use arena::{Span, Term};
 
 impl Sealed {
     /// A grammar of these parts, unless one of the lists is too long.
     pub fn new(
         rules: Vec<Span>,
         alternatives: Vec<Span>,
-        terms: Vec<Term>,
+        terms: Vec<Term<u16, usize>>,
         bytes: Vec<u8>,
         code: Vec<Code>,
     ) -> Option<Sealed>

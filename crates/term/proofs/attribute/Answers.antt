@@ -6,7 +6,7 @@ use Rattle.code.specs.Pieces.{codes}
 use Rattle.expr.specs.Reading.{mark_at}
 use Rattle.expr.specs.Trees.{encode}
 use Rattle.expr.proofs.Turns.{grew_by, reads_there, refuses_there}
-use Rattle.term.specs.declared.arenas.Term.TheVariants as term
+use Rattle.arena.specs.declared.term.Term.TheVariants as term
 use Rattle.term.specs.Form as tree
 use Rattle.term.specs.Form.{expr_at, equals_at}
 use Rattle.term.specs.Tables as entry
@@ -42,12 +42,12 @@ returns-clause-told c =
     let out = c.args.out.now in
     let v = c.in_ok-span.ensures in
     let e = v.told.0 in
-    let w = letters c.in_ok-called.called in
-    let place = c.in_ok-called.place in
+    let w = letters c.in_ok-called.called.0 in
+    let place = c.in_ok-called.called.1 in
     let first = c.in_ok-called.ensures.moves.same_text in
     let second = c.in_ok-equals.ensures.moves.same_text ∙ first in
     let equal = reads_there first equals_at c.name.new.tokens.left c.equals.new.tokens.left tt c.in_ok-equals.ensures.told in
     let read = reads_there second expr_at c.equals.new.tokens.left c.value.new.tokens.left e v.told.1 in
     let shut = reads_there (v.moves.same_text ∙ second) (mark_at CloseCurly) c.value.new.tokens.left c.mark.new.tokens.left tt c.in_ok-mark.ensures.told in
     let is = ap (entry.attribute place w) v.told.3 in
-    (tree.attribute place w e, search rules, same_tables (put_entry (stored out.terms) (stored c.put.new.self) (term.Attribute c.in_ok-called.called place c.in_ok-span.span) (entry.attribute place w (span_of (codes out.code) e)) c.put.ensures is) refl v.told.2)
+    (tree.attribute place w e, search rules, same_tables (put_entry (stored out.terms) (stored c.put.new.self) (term.Attribute c.in_ok-called.called c.in_ok-span.span) (entry.attribute place w (span_of (codes out.code) e)) c.put.ensures is) refl v.told.2)

@@ -3,7 +3,7 @@ use Rattle.std.proofs.lemmas.Result.{err_from_is_err_and}
 use Rattle.arena.specs.Bounded.{stored}
 use Rattle.code.specs.Names.{letters}
 use Rattle.code.specs.Pieces.{codes}
-use Rattle.term.specs.declared.arenas.Term.TheVariants as term
+use Rattle.arena.specs.declared.term.Term.TheVariants as term
 use Rattle.term.specs.Form as tree
 use Rattle.term.specs.Tables as entry
 use Rattle.term.specs.Tables.{tables, emit_term, between, bytes_after, span_of, ends_of}

@@ -6,7 +6,7 @@ use Rattle.code.specs.Pieces.{codes}
 use Rattle.expr.specs.Reading.{mark_at}
 use Rattle.expr.specs.Trees.{encode}
 use Rattle.expr.proofs.Turns.{grew_by, reads_there, refuses_there}
-use Rattle.term.specs.declared.arenas.Term.TheVariants as term
+use Rattle.arena.specs.declared.term.Term.TheVariants as term
 use Rattle.term.specs.Form as tree
 use Rattle.term.specs.Form.{expr_at, equals_at}
 use Rattle.term.specs.Tables as entry

@@ -13,4 +13,4 @@ pub returns-clause-goes : goal.returns-clause-goes
 returns-clause-goes g c =
     let q = subject g.I.Input.shown g.R.FieldReader.meaning c.args.setting.now in
     let t = c.args.self.now in
-    attribute_goes q.read q.grammar t.limits q.bytes (held t.stack) t.nodes.now t.count t.state c.args.f c.requires.sound c.args.k _ c.requires.next c.onward.result c.in-Some.v _ _ c.onward.ensures c.in-Some.ensures c.put_slot.ensures
+    attribute_goes q.read q.grammar t.limits q.bytes (held t.stack) t.nodes.now t.count t.state c.args.f c.requires.sound c.args.k _ c.requires.next c.onward.result c.in-Some.v _ _ c.onward.ensures c.in-Some.ensures c.write_at.ensures
