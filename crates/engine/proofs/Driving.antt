@@ -6,7 +6,6 @@ use Rattle.meaning.specs.Meaning.{Replies}
 use Rattle.machine.specs.Machine.{Config, Next, next_means}
 use Rattle.machine.specs.Machine.Next.{on, over}
 use Rattle.machine.proofs.Machine.{steps_fall}
-use Rattle.meaning.specs.declared.answer.Answer.{Answer}
 use Rattle.meaning.specs.declared.node.Node.{Node}
 use Rattle.meaning.specs.declared.run.State.{State}
 use Rattle.meaning.specs.declared.run.Start.{Start}
@@ -65,25 +64,6 @@ module _ (read : Replies) (grammar : Grammar) (limits : Limits) (bytes : List �
     pub sound_at : (m m' : Mode) → m ≡ m' → Sound grammar bytes limits.frames rs nodes count m → Sound grammar bytes limits.frames rs nodes count m'
     sound_at m m' e h = rw e at h
 
-    pub budget_at : (m m' : Mode) → m ≡ m' → InBudget limits (at m) → InBudget limits (at m')
-    budget_at m m' e h = rw e at h
-
--- modes that end
-module _ (m : Mode) where
-  pub rest_goes : (m ≡ Matched → ⊥) → (m ≡ Failed → ⊥) → ((n : Answer) → m ≡ Stopped n → ⊥) → true ≡ goes_on m
-  unfolding goes_on
-  rest_goes a b c = by m a b c
-    where
-      by : (m : Mode) → (m ≡ Matched → ⊥) → (m ≡ Failed → ⊥) → ((n : Answer) → m ≡ Stopped n → ⊥) → true ≡ goes_on m
-      by (Begins c) x y z = refl
-      by (Runs f) x y z = refl
-      by (Tries c i k) x y z = refl
-      by (Returns me) x y z = refl
-      by (GivesUp me) x y z = refl
-      by Matched x y z = absurd (x refl)
-      by Failed x y z = absurd (y refl)
-      by (Stopped n) x y z = absurd (z n refl)
-
 pub small_held : (grammar : Grammar) (bytes : List ℕ) (frames : ℕ) (rs : List Frame) (nodes : List Node) (count me : ℕ) → Sound grammar bytes frames rs nodes count (GivesUp me) → Small rs
 unfolding Sound Stacked Small
 small_held grammar bytes frames [] nodes count me h = tt
@@ -93,9 +73,6 @@ small_held grammar bytes frames (f ∷ fs) nodes count me h = h.2.2.2
 pub next_small : (grammar : Grammar) (bytes : List ℕ) (frames : ℕ) (rs : List Frame) (nodes : List Node) (count : ℕ) (f : Frame) (t : Term) → Sound grammar bytes frames rs nodes count (Runs f) → NextIs grammar f t → f.next < 65536
 unfolding Sound NextIs
 next_small grammar bytes frames rs nodes count f t h e = omega (arith, ap length e, h.4.0, h.4.1)
-
-pub next_as : (grammar : Grammar) (f : Frame) (t t' : Term) → t ≡ t' → NextIs grammar f t → NextIs grammar f t'
-next_as grammar f t t' e h = rw e at h
 
 pub rest_stops : (m : Mode) → ((c : Start) → m ≡ Begins c → ⊥) → ((f : Frame) → m ≡ Runs f → ⊥) → ((c : Start) (i k : ℕ) → m ≡ Tries c i k → ⊥) → ((me : ℕ) → m ≡ Returns me → ⊥) → ((me : ℕ) → m ≡ GivesUp me → ⊥) → goes_on m ≡ false
 unfolding goes_on

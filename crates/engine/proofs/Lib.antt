@@ -6,7 +6,7 @@ pub mod Reading
 pub mod Beginning
 pub mod Running
 pub mod Driving
-pub mod Cleared
+pub mod Moved
 pub mod Same
 pub mod Standing
 pub mod Turning

@@ -1,6 +1,5 @@
 -- Refusals, and what is left behind.
 use Rattle.std.proofs.Common.{◌≡◌, ℕ, ◌+◌, ◌-◌, ◌<◌, ◌≤◌, true, leb, List, ◌++◌, map, length, get_or, take, drop, replicate, sym, ap, ◌∙◌, Ok, inl, inr, arith, leb-true}
-use Rattle.std.proofs.lemmas.Bool.Decides.{nat_tests}
 use Rattle.std.proofs.lemmas.Bool.{and_parts}
 use Rattle.std.proofs.lemmas.List.{get_or-take, length-map, length-take-le, take_at}
 use Rattle.meaning.specs.Meaning as meaning
@@ -14,15 +13,11 @@ use Rattle.meaning.specs.Meaning.{whole}
 use Rattle.meaning.specs.Syntax.{Grammar}
 use Rattle.meaning.specs.declared.run.Limits.{Limits}
 use Rattle.engine.specs.Blanks.{blank_node, blank_frame}
-use Rattle.engine.specs.Parses.{told, After, leaves, allowed}
+use Rattle.engine.specs.Parses.{told, After, leaves}
 use Rattle.engine.specs.Places.{placed, absolute, FitAt, NodeFits}
 
 pub ordered_parts : (l r n : ℕ) → in_order l r n ≡ true → (l ≤ r) × (r ≤ n)
 ordered_parts l r n e = let p = and_parts (leb l r) (leb r n) e in (leb-true l r p.0, leb-true r n p.1)
-
-pub allowed_budget : (b f n : ℕ) → allowed b f n ≡ true → b ≤ 1000000
-unfolding allowed
-allowed_budget b f n e = grind (arith, nat_tests)
 
 -- the node table, moved and blanked
 module _ (left : ℕ) (r : Outcome) (run₁ run₂ run₃ : List Node) (o : meaning.Outcome) (is : told r run₁ ≡ o) (few : r.nodes ≤ length run₁) where

@@ -1,8 +1,7 @@
 -- A reader's answer for a window.
-use Rattle.std.proofs.Common.{◌≡◌, ℕ, suc, ◌+◌, ◌<◌, ◌≤◌, Bool, true, false, cond, List, length, set, Some, None, Option, sym, ap, ◌∙◌, add-one, arith, le-leb}
+use Rattle.std.proofs.Common.{◌≡◌, ℕ, suc, ◌+◌, ◌<◌, ◌≤◌, List, length, set, Some, None, sym, ap, ◌∙◌, add-one, arith, le-leb}
 use lib.Seq.{slice_empty}
 use Rattle.std.proofs.lemmas.List.{get_or-set_same, length-set}
-use Rattle.input.proofs.Windows.{window_length}
 use Rattle.fields.specs.Fields.{Fields, read_on}
 use Rattle.fields.specs.declared.reading.Reading.{Reading}
 use Rattle.meaning.specs.Syntax.{Grammar}
@@ -23,10 +22,6 @@ use Rattle.engine.specs.Blanks.{blank_node}
 use Rattle.engine.specs.Configs.{tree_at, stands, Stacked, Sound, Fielded}
 use Rattle.engine.proofs.Frames.{frames_kept}
 
-owned_gives : (b : Bool) (o : Option Reading) (v : Reading) → Some v ≡ cond b o None → o ≡ Some v
-owned_gives true o v e = sym e
-owned_gives false o v e = absurd (let z : ◌≡◌ {A = ℕ} 0 1 = cc in omega arith)
-
 module _ (f : Fields) (n : ℕ) (bs : List ℕ) (w : Window) (h : w.left ≤ w.right) (k : w.right ≤ length bs) where
   abbrev part : List ℕ
   part = bytes_in bs w
@@ -34,14 +29,6 @@ module _ (f : Fields) (n : ℕ) (bs : List ℕ) (w : Window) (h : w.left ≤ w.r
   pub same_answer : read_on f n bs w.left w.right ≡ read_of f n part
   unfolding read_of bytes_in
   same_answer = simp (le-leb w.left w.right h, le-leb w.right (length bs) k)
-
-  -- a reader uses no more than its window
-  pub uses_within : (v : Reading) → Some v ≡ read_on f n bs w.left w.right → w.left + v.used ≤ w.right
-  unfolding read_of bytes_in
-  uses_within v e =
-      let l = window_length bs w.left w.right h k in
-      let t = owned_gives (f.owned n) (f.reads n part) v (e ∙ same_answer) in
-      omega (arith, (f.counted n part v t).1)
 
   module _ (s : State) (u : Window) where
     pub accepted : (v : Reading) → Some v ≡ read_on f n bs w.left w.right → u ≡ cover s.reach (record { left = w.left; right = w.left + v.used })

@@ -1,8 +1,7 @@
-ghost use Rattle.std.specs.Prelude.{◌≡◌, ℕ, ◌<◌, ◌≤◌, List, length};
-ghost use Rattle.meaning.specs.Meaning.{field};
+ghost use Rattle.std.specs.Prelude.{◌≡◌, ◌<◌, length};
 ghost use Rattle.stack.specs.Stacks.{held};
 ghost use Rattle.sealed.specs.Grammars.{grammar_of};
-ghost use Rattle.engine.specs.Configs.{Inside, Fielded};
+ghost use Rattle.engine.specs.Configs.{Inside};
 ghost use Rattle.engine.specs.Steps.{subject, SoundAt, Goes, Kept, Answers};
 ghost use Rattle.engine.specs.declared.mode.Mode.TheVariants.{Begins};
 

@@ -1,4 +1,4 @@
-ghost use Rattle.std.specs.Prelude.{◌≡◌, ◌≤◌, ℕ, List, length};
+ghost use Rattle.std.specs.Prelude.{◌≡◌, ◌≤◌, length};
 ghost use Rattle.meaning.specs.Runs.{Ran};
 ghost use Rattle.meaning.specs.Meaning.{Tree, outcome};
 ghost use Rattle.machine.specs.Machine.Next.{over};

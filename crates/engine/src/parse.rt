@@ -88,7 +88,7 @@ impl<'a, I: Input, R: FieldReader> Setting<'a, I, R> {
         let mut numbers = [0u64; PENDING];
         let end = tables.drive(&setting, root(request.rule, view.len()), &mut numbers);
         let outcome = tables.conclude(end);
-        // What was lent is given back.
+        // Taken apart, the tables give back what was lent.
         let Tables {
             stack: _,
             nodes: _nodes,

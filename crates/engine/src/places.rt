@@ -1,4 +1,4 @@
-ghost use Rattle.std.specs.Prelude.{◌≡◌, ℕ, ◌+◌, ◌-◌, ◌<◌, ◌≤◌, List, ◌++◌, map, length, take, drop, replicate, slice_index_or};
+ghost use Rattle.std.specs.Prelude.{◌≡◌, ℕ, ◌+◌, ◌-◌, ◌<◌, ◌≤◌, ◌++◌, map, length, take, drop, replicate, slice_index_or};
 ghost use Rattle.engine.specs.Blanks.{blank_node, blank_frame};
 ghost use Rattle.engine.specs.Places.{placed, absolute, FitAt, NodeFits};
 

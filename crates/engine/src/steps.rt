@@ -1,4 +1,4 @@
-ghost use Rattle.std.specs.Prelude.{◌≡◌, ◌+◌, ◌<◌, ◌≤◌, [], length, drop, slice_index_or};
+ghost use Rattle.std.specs.Prelude.{◌+◌, ◌<◌, ◌≤◌, [], length, drop, slice_index_or};
 ghost use Rattle.stack.specs.Stacks.{held};
 ghost use Rattle.meaning.specs.Syntax.{Grammar};
 ghost use Rattle.sealed.specs.Grammars.{grammar_of, terms_in};

@@ -1,7 +1,7 @@
 // The value of an expression, run from its code over a stack of pending numbers.
 #![tactic(auto)]
 
-ghost use Rattle.std.specs.Prelude.{◌≡◌, ◌-◌, length, drop};
+ghost use Rattle.std.specs.Prelude.{◌≡◌, ◌-◌, drop};
 ghost use Rattle.stack.specs.Stacks.{held};
 ghost use Rattle.input.specs.declared.window.Window.{Window as Extent};
 ghost use Rattle.meaning.specs.Values.{called, value as value_of};
@@ -111,5 +111,5 @@ fn last_number(stack: &mut Stack<u64>) -> Option<u64>
     ensures lender { stack.new.slots.ghost_name ≡ stack.old.slots.ghost_name }
 {
     let v = stack.pop().ok()?;
-    if stack.depth() == 0 { Some(v) } else { None }
+    (stack.depth() == 0).then_some(v)
 }

@@ -42,9 +42,6 @@ impl Op {
 fn shift(p: u64, q: u64) -> Option<u64>
     ensures { result ≡ applied Shift p q }
 {
-    if q < 64 {
-        p.checked_mul(1u64 << q)
-    } else {
-        None
-    }
+    let power = 1u64.checked_shl(u32::try_from(q).ok()?)?;
+    p.checked_mul(power)
 }

@@ -1,4 +1,4 @@
-ghost use Rattle.std.specs.Prelude.{◌≡◌, List, [], map, length, option_map, slice_get, slice_index_or};
+ghost use Rattle.std.specs.Prelude.{◌≡◌, [], map, length, option_map, slice_get, slice_index_or};
 ghost use Rattle.arena.specs.Parts.{part};
 ghost use Rattle.sealed.specs.Grammars.{grammar_of, term_in, terms_of};
 

@@ -1,6 +1,6 @@
 use Rattle.std.proofs.Common.{get_or, arith}
 use Rattle.engine.specs.Places.{absolute}
-use Rattle.engine.proofs.Cleared.{fits_now, absolute_is, map_next, rest_next, map_all}
+use Rattle.engine.proofs.Moved.{fits_now, absolute_is, map_next, rest_next, map_all}
 use Rattle.engine.proofs.places.move_nodes.Goals as goal
 
 pub place-requires : goal.place-requires

@@ -1,26 +1,10 @@
--- Tables that are blanked, entry by entry.
-use Rattle.std.proofs.Common.{◌≡◌, ℕ, ◌+◌, ◌-◌, ◌<◌, ◌≤◌, List, [], ◌∷◌, ◌++◌, map, length, get_or, take, drop, set, replicate, sym, ap, ◌∙◌, append_assoc, add-zero, arith, take-append-drop}
+-- A table of nodes that are moved, entry by entry.
+use Rattle.std.proofs.Common.{◌≡◌, ℕ, ◌+◌, ◌<◌, List, [], ◌∷◌, ◌++◌, map, length, get_or, take, drop, set, sym, ap, ◌∙◌, add-zero, arith, take-append-drop}
 use Rattle.meaning.specs.declared.node.Node.{Node}
 use Rattle.input.specs.declared.window.Window.{Window}
 use Rattle.engine.specs.Blanks.{blank_node}
 use Rattle.engine.specs.Places.{placed, absolute, NodeFits}
-use Rattle.std.proofs.lemmas.List.{take_more_set, replicate_more, take_all, map_more, drop-set-lt, drop-drop, get_or-drop, get_or_default}
-
-module _ {X : Type 0} (y : X) where
-  pub blank_more : (xs : List X) (i : ℕ) → i < length xs → take i xs ≡ replicate i y → take (i + 1) (set xs i y) ≡ replicate (i + 1) y
-  blank_more xs i h e = take_more_set xs i y h ∙ ap (λ z. z ++ y ∷ []) e ∙ replicate_more i y
-
-  pub blank_all : (xs : List X) (i n : ℕ) → length xs ≤ i → i ≡ n → take i xs ≡ replicate i y → xs ≡ replicate n y
-  blank_all xs i n h q e = sym (take_all i xs h) ∙ e ∙ ap (λ k. replicate k y) q
-
-  pub rest_more : (xs es : List X) (i k : ℕ) → i < length xs → k ≤ i → take i xs ≡ take k es ++ replicate (i - k) y → take (i + 1) (set xs i y) ≡ take k es ++ replicate (i + 1 - k) y
-  rest_more xs es i k h l e =
-      let z : i - k + 1 ≡ i + 1 - k = omega arith in
-      take_more_set xs i y h ∙ ap (λ u. u ++ y ∷ []) e ∙ append_assoc (take k es) (replicate (i - k) y) (y ∷ [])
-      ∙ ap (λ u. take k es ++ u) (replicate_more (i - k) y ∙ ap (λ j. replicate j y) z)
-
-  pub rest_all : (xs es : List X) (i k n : ℕ) → length xs ≤ i → i ≡ n → take i xs ≡ take k es ++ replicate (i - k) y → xs ≡ take k es ++ replicate (n - k) y
-  rest_all xs es i k n h q e = sym (take_all i xs h) ∙ e ∙ ap (λ j. take k es ++ replicate (j - k) y) q
+use Rattle.std.proofs.lemmas.List.{take_more_set, map_more, drop-set-lt, drop-drop, get_or-drop, get_or_default}
 
 module _ {X : Type 0} (f : X → X) (xs es : List X) (i : ℕ) (done : take i xs ≡ map f (take i es)) (rest : drop i xs ≡ drop i es) where
   pub same_here : (d : X) → get_or xs i d ≡ get_or es i d
