@@ -163,3 +163,5 @@ module _ (bs : List ℕ) (at : ℕ) where
 
     pub text_refused : class.Quote ≡ class_of seen → false ≡ allowed_body body → resumed bs s at ≡ refused from
     text_refused e told = text_closes e false told
+
+pub ruleset turns = (ended, spaced, name_opens, number_opens, text_opens, no_token, name_goes_on, name_ends, name_long, number_goes_on, text_goes_on, text_ends, text_refused)

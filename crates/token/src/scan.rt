@@ -76,7 +76,7 @@ fn width(op: Op) -> usize
 }
 
 /// What the byte at a place does to a reader that stands there.
-#[tactic(auto, using(crate::proofs::Turns::ended, crate::proofs::Turns::spaced, crate::proofs::Turns::name_opens, crate::proofs::Turns::number_opens, crate::proofs::Turns::text_opens, crate::proofs::Turns::no_token, crate::proofs::Turns::name_goes_on, crate::proofs::Turns::name_ends, crate::proofs::Turns::name_long, crate::proofs::Turns::number_goes_on, crate::proofs::Turns::text_goes_on, crate::proofs::Turns::text_ends, crate::proofs::Turns::text_refused))]
+#[tactic(auto, using(crate::proofs::Turns::turns))]
 fn step<'a>(text: &'a [u8], state: State, at: usize) -> Result<Turn<'a>, NoToken>
     requires { Standing text.now state at }
     ensures reads { resumed text.now state at ≡ after text.now at result }
