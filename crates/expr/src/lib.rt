@@ -5,7 +5,7 @@ ghost use Rattle.std.specs.Prelude.{◌≡◌, OnOk};
 ghost use Rattle.token.specs.Ahead.{Advances, AdvancesOrStays};
 ghost use Rattle.code.specs.Names.{letters};
 ghost use Rattle.code.specs.Pieces.{codes};
-ghost use Rattle.expr.specs.Reading.{level_of, TakesOperator, field_at, ReadsField, Wrote, named_at, part_at, operand_at, joined_at, expression_at};
+ghost use Rattle.expr.specs.Reading.{level_of, TakesOperator, field_at, ReadsField, Wrote, named_at, part_at, product_at, sum_at, operand_at, joined_at, expression_at};
 
 use arena::Arena;
 use code::{Code, Name, emit};
@@ -123,8 +123,8 @@ fn operand(
 {
     match level {
         Level::Product => part(tokens, deeper, out),
-        Level::Sum => joined(tokens, Level::Product, deeper, out),
-        Level::Compare => joined(tokens, Level::Sum, deeper, out),
+        Level::Sum => product(tokens, deeper, out),
+        Level::Compare => sum(tokens, deeper, out),
     }
 }
 
@@ -147,6 +147,24 @@ fn joined(
     Ok(())
 }
 
+/// Parts joined by `*`, `/`, `%` and `<<`.
+#[cycle(expression)]
+fn product(tokens: &mut Tokens, deeper: usize, out: &mut Arena<Code, 1025>) -> Result<(), Refusal>
+    ensures told { Wrote result (product_at tokens.old.end deeper tokens.old.left) tokens.new.left (codes out.old) (codes out.new) }
+    ensures moves { OnOk result (Advances tokens.old tokens.new) }
+{
+    joined(tokens, Level::Product, deeper, out)
+}
+
+/// Products joined by `+` and `-`.
+#[cycle(expression)]
+fn sum(tokens: &mut Tokens, deeper: usize, out: &mut Arena<Code, 1025>) -> Result<(), Refusal>
+    ensures told { Wrote result (sum_at tokens.old.end deeper tokens.old.left) tokens.new.left (codes out.old) (codes out.new) }
+    ensures moves { OnOk result (Advances tokens.old tokens.new) }
+{
+    joined(tokens, Level::Sum, deeper, out)
+}
+
 /// An expression with at most `deeper` brackets open: its code is appended. After a refusal the tokens stand anywhere.
 #[cycle(expression)]
 pub fn expression(
@@ -157,9 +175,9 @@ pub fn expression(
     ensures told { Wrote result (expression_at tokens.old.end deeper tokens.old.left) tokens.new.left (codes out.old) (codes out.new) }
     ensures moves { OnOk result (Advances tokens.old tokens.new) }
 {
-    operand(tokens, Level::Compare, deeper, out)?;
+    sum(tokens, deeper, out)?;
     if let Some(op) = operator(tokens, Level::Compare) {
-        operand(tokens, Level::Compare, deeper, out)?;
+        sum(tokens, deeper, out)?;
         emit(out, Code::Operator(op));
     }
     Ok(())

@@ -1,6 +1,5 @@
 -- The classes of bytes, and the values of digits.
-use Rattle.std.proofs.Common.{◌≡◌, ℕ, suc, ◌+◌, ◌-◌, ◌*◌, ◌<◌, ◌≤◌, Bool, true, false, cond, ◌&&◌, eqb, leb, List, [], ◌∷◌, length, drop, get_or, sym, refl, ap, ◌∙◌, arith}
-use Rattle.std.proofs.Math.Seq.{drop-cons}
+use Rattle.std.proofs.Common.{◌≡◌, ℕ, ◌+◌, ◌-◌, ◌*◌, ◌≤◌, Bool, true, false, cond, ◌&&◌, eqb, leb, List, [], ◌∷◌, length, sym, refl, ap, ◌∙◌, arith}
 use Rattle.std.proofs.lemmas.Bool.Decides.{nat_tests}
 use Rattle.token.specs.Classes.{separator, letter, digit, mark_class, byte_class, class_of}
 use Rattle.token.specs.declared.Class.{Class}
@@ -16,7 +15,7 @@ abbrev pub begun : Class → Bool
 begun class.End = false
 begun _ = true
 
-begun_some : (bs : List ℕ) → begun (class_of bs) ≡ true → 1 ≤ length bs
+pub begun_some : (bs : List ℕ) → begun (class_of bs) ≡ true → 1 ≤ length bs
 begun_some [] h = absurd (grind (arith, h))
 begun_some (b ∷ bs) h = omega arith
 
@@ -98,12 +97,3 @@ spaces b e = go (separator b) refl
     go : (x : Bool) → separator b ≡ x → separator b ≡ true
     go true h = h
     go false h = absurd (no_space b h e)
-
--- one more digit is read
-pub digit_next : (l : List ℕ) (i n : ℕ) → i < length l → value n (drop i l) ≡ value (n * 10 + digit_in (byte_class (get_or l i 0))) (drop (i + 1) l)
-digit_next l i n h =
-    let further : suc i ≡ i + 1 = omega arith in
-    ap (value n) (drop-cons l i 0 h) ∙ ap (λ k. value (n * 10 + digit_in (byte_class (get_or l i 0))) (drop k l)) further
-
-pub digit_grows : (l : List ℕ) (i n : ℕ) → i < length l → n * 10 + digit_in (byte_class (get_or l i 0)) ≤ value n (drop i l)
-digit_grows l i n h = let next = digit_next l i n h in let grown = value_grows (n * 10 + digit_in (byte_class (get_or l i 0))) (drop (i + 1) l) in omega arith

@@ -1,5 +1,5 @@
 -- What one more byte does to an open token.
-use Rattle.std.proofs.Common.{◌≡◌, ℕ, zero, suc, ◌+◌, ◌^◌, ◌<◌, ◌≤◌, Bool, true, false, cond, ◌&&◌, eqb, ltb, leb, List, [], ◌∷◌, ◌++◌, length, take, drop, Some, None, codes, Option, sym, refl, ap, ◌∙◌, arith, length-drop}
+use Rattle.std.proofs.Common.{◌≡◌, ℕ, zero, suc, ◌+◌, ◌^◌, ◌<◌, ◌≤◌, Bool, true, false, cond, ◌&&◌, eqb, ltb, leb, List, [], ◌∷◌, ◌++◌, length, take, drop, Some, None, codes, Option, sym, refl, ap, ◌∙◌, append_assoc, append-nil, arith, length-drop}
 use Rattle.std.specs.Str.{bytes_eq}
 use Rattle.std.proofs.lemmas.Bool.Decides.{nat_tests}
 use Rattle.strings.specs.Decoding.{decode, decoded_length, or_empty, bytes_of}
@@ -8,7 +8,7 @@ use Rattle.token.specs.declared.Class.{Class}
 use Rattle.token.specs.declared.Class.TheVariants as class
 use Rattle.operators.specs.declared.Op.{Op}
 use Rattle.operators.specs.declared.Op.TheVariants as op
-use Rattle.token.specs.Tokens.{refused, cons, text, number, eoi, guard, name, Sized, few_bytes, front, back, word_of, value, allowed_body, Rest, text_end, mark, operator, name_byte, number_byte, text_byte, width_of, start, lex, lexed}
+use Rattle.token.specs.Tokens.{refused, cons, text, number, eoi, guard, name, Sized, few_bytes, front, back, word_of, value, allowed_body, Rest, text_end, run, mark, operator, name_byte, number_byte, text_byte, width_of, start, lex, lexed}
 
 -- << and < differ in no test that treats all operators alike
 pub same_class : {X : Type 0} (t : Class → X) → t (class.Operator op.Shift) ≡ t (class.Operator op.Less) → (b : ℕ) (bs : List ℕ) → t (class_of (b ∷ bs)) ≡ t (byte_class b)
@@ -20,6 +20,28 @@ same_class t e b (c ∷ bs) = go (eqb b 0x3C && eqb c 0x3C) refl
     go true h =
         let is : b ≡ 0x3C = grind (arith, nat_tests) in
         e ∙ sym (ap (λ n. t (byte_class n)) is)
+
+-- ---- runs, of the bytes whose class passes
+abbrev by_class : (Class → Bool) → ℕ → Bool
+by_class t b = t (byte_class b)
+
+module _ (t : Class → Bool) (alike : t (class.Operator op.Shift) ≡ t (class.Operator op.Less)) (none : t class.End ≡ false) (end : List ℕ → Rest) (w : List ℕ) (at : ℕ) where
+  pub run_grows : (bs : List ℕ) → t (class_of bs) ≡ true → run end (by_class t) w at bs ≡ run end (by_class t) (w ++ take 1 bs) (at + 1) (drop 1 bs)
+  run_grows [] h = absurd (grind (arith, sym none ∙ h))
+  run_grows (b ∷ bs) h =
+      let passes : t (byte_class b) ≡ true = sym (same_class t alike b bs) ∙ h in
+      let more : front (by_class t) (b ∷ bs) ≡ b ∷ front (by_class t) bs = rw (passes, front) refl in
+      let left : back (by_class t) (b ∷ bs) ≡ back (by_class t) bs = rw (passes, back) refl in
+      let place : at + length (b ∷ front (by_class t) bs) ≡ at + 1 + length (front (by_class t) bs) = omega arith in
+      rw (more, left, place, append_assoc w (b ∷ []) (front (by_class t) bs)) refl
+
+  pub run_stops : (bs : List ℕ) → t (class_of bs) ≡ false → run end (by_class t) w at bs ≡ end w at bs
+  run_stops [] h = rw (append-nil w) (ap (λ n. end w n []) (omega arith))
+  run_stops (b ∷ bs) h =
+      let fails : t (byte_class b) ≡ false = sym (same_class t alike b bs) ∙ h in
+      let no_more : front (by_class t) (b ∷ bs) ≡ [] = rw (fails, front) refl in
+      let all_left : back (by_class t) (b ∷ bs) ≡ b ∷ bs = rw (fails, back) refl in
+      rw (no_more, all_left, append-nil w) (ap (λ n. end w n (b ∷ bs)) (omega arith))
 
 pub width_some : (o : Op) → 1 ≤ width_of o
 width_some op.Equal = omega arith

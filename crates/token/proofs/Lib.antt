@@ -1,6 +1,5 @@
 pub mod Laws
 pub mod Classes
-pub mod Runs
-pub mod Places
+pub mod Turns
 pub mod Sofar
 pub mod Stand

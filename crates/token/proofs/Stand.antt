@@ -8,13 +8,28 @@ use Rattle.operators.specs.declared.Op.{Op}
 use Rattle.token.specs.Classes.{separator, byte_class, class_of}
 use Rattle.token.specs.Tokens.{Lexeme, Lexed, done, refused, cons, text, number, operator, mark, front, back, name_byte, number_byte, text_byte, word_of, value, allowed_body, width_of, text_end, start, lexed}
 use Rattle.token.proofs.Laws.{unfolds, width_some}
-use Rattle.token.proofs.Runs.{front_back, back_stops}
 use Rattle.token.proofs.Classes.{begun, one_byte, spaces, not_end, wide_enough}
 use Rattle.token.specs.Laid.{all, stops, Stands, a_word, a_number, a_string, a_mark, an_operator, Laid}
 
 -- ---- runs
 module _ (p : ℕ → Bool) where
-  pub front_all : (bs : List ℕ) → all p (front p bs) ≡ true
+  front_back : (bs : List ℕ) → front p bs ++ back p bs ≡ bs
+  front_back [] = refl
+  front_back (b ∷ bs) = go (p b) (front_back bs)
+    where
+      go : (x : Bool) → front p bs ++ back p bs ≡ bs → cond x (b ∷ front p bs) [] ++ cond x (back p bs) (b ∷ bs) ≡ b ∷ bs
+      go true r = ap (λ l. b ∷ l) r
+      go false r = refl
+
+  back_stops : (bs : List ℕ) → stops p (back p bs) ≡ true
+  back_stops [] = refl
+  back_stops (b ∷ bs) = go (p b) refl (back_stops bs)
+    where
+      go : (x : Bool) → p b ≡ x → stops p (back p bs) ≡ true → stops p (cond x (back p bs) (b ∷ bs)) ≡ true
+      go true h r = r
+      go false h r = ap not h
+
+  front_all : (bs : List ℕ) → all p (front p bs) ≡ true
   front_all [] = refl
   front_all (b ∷ bs) = go (p b) refl (front_all bs)
     where
@@ -22,8 +37,8 @@ module _ (p : ℕ → Bool) where
       go true h r = ap (λ x. x && all p (front p bs)) h ∙ r
       go false h r = refl
 
-  pub back_few : (bs : List ℕ) → length (front p bs) + length (back p bs) ≡ length bs
-  back_few bs = sym (length-append (front p bs) (back p bs)) ∙ ap length (front_back p bs)
+  back_few : (bs : List ℕ) → length (front p bs) + length (back p bs) ≡ length bs
+  back_few bs = sym (length-append (front p bs) (back p bs)) ∙ ap length (front_back bs)
 
 -- ---- one more separator before
 gap_more : (at b : ℕ) (bs : List ℕ) (l : Lexed) → separator b ≡ true → Laid (at + 1) bs l → Laid at (b ∷ bs) l

@@ -1,5 +1,5 @@
 -- The tokens of a text: at each place the longest one.
-use Rattle.std.specs.Prelude.{◌≡◌, ℕ, zero, suc, ◌+◌, ◌*◌, ◌^◌, ◌<◌, ◌≤◌, Bool, true, false, cond, ◌&&◌, List, [], ◌∷◌, ◌++◌, length, take, drop, Some, None, Ok, Err, Result, codes, Option, ◌==◌, nat_le, nat_lt}
+use Rattle.std.specs.Prelude.{◌≡◌, ℕ, zero, suc, ◌+◌, ◌-◌, ◌*◌, ◌^◌, ◌<◌, ◌≤◌, Bool, true, false, cond, ◌&&◌, List, [], ◌∷◌, ◌++◌, length, take, drop, Some, None, Ok, Err, Result, codes, Option, ◌==◌, nat_le, nat_lt}
 use Rattle.std.specs.Str.{bytes_eq}
 use Rattle.strings.specs.Decoding.{decode, decoded_length, bytes_of}
 use Rattle.token.specs.Classes.{byte_class, class_of}
@@ -11,6 +11,10 @@ use Rattle.operators.specs.declared.Op.{Op}
 use Rattle.operators.specs.declared.Op.TheVariants as op
 use Rattle.token.specs.declared.Placed.{Placed}
 use Rattle.token.specs.declared.scan.NoToken.{NoToken}
+use Rattle.token.specs.declared.scan.State.{State}
+use Rattle.token.specs.declared.scan.State.TheVariants as state
+use Rattle.token.specs.declared.scan.Turn.{Turn}
+use Rattle.token.specs.declared.scan.Turn.TheVariants as turn
 use Rattle.token.specs.declared.Token.{Token}
 use Rattle.token.specs.declared.Token.TheVariants as token
 
@@ -201,23 +205,49 @@ lex (suc f) at bs = start (lex f) at (class_of bs) bs
 unfoldable pub lexed : Rest
 lexed at bs = lex (length bs) at bs
 
--- ---- one token at a time
--- the token that was read at a place and what follows it, or what is no token
-abbrev pub written : List ℕ → ℕ → Result (Token × ℕ) NoToken → Lexed
-written bs at (Ok x) = cons (at, lexeme x.0) (lexed x.1 (drop x.1 bs))
-written bs at (Err e) = refused e.place
+-- ---- the reader's states
+-- the bytes from one place up to another
+abbrev pub part : ℕ → ℕ → List ℕ → List ℕ
+part a b bs = take (b - a) (drop a bs)
 
+-- the tokens that a reader gives that stands at a place
+abbrev pub resumed : List ℕ → State → ℕ → Lexed
+resumed bs state.Between at = lexed at (drop at bs)
+resumed bs (state.InName from) at = name_from lexed from (part from at bs) at (drop at bs)
+resumed bs (state.InNumber from v) at = number_from lexed from v at (drop at bs)
+resumed bs (state.InText from) at = text_from lexed from (part (from + 1) at bs) at (drop at bs)
+
+-- where a reader can stand: past the first byte of what is open
+abbrev pub Standing : List ℕ → State → ℕ → Type 0
+Standing bs state.Between at = at ≤ length bs
+Standing bs (state.InName from) at = (from < at) × (at ≤ length bs) × (at - from ≤ 24)
+Standing bs (state.InNumber from v) at = (from < at) × (at ≤ length bs)
+Standing bs (state.InText from) at = (from < at) × (at ≤ length bs)
+
+-- whether a token is open: its end can be seen without a byte of its own
+abbrev pub busy : State → ℕ
+busy state.Between = 0
+busy _ = 1
+
+-- what is left to read after a step
+abbrev pub after : List ℕ → ℕ → Result Turn NoToken → Lexed
+after bs at (Ok (turn.Go s)) = resumed bs s (at + 1)
+after bs at (Ok (turn.Made p to)) = cons (shown p) (lexed to (drop to bs))
+after bs at (Ok turn.End) = done
+after bs at (Err e) = refused e.place
+
+-- a step goes on by a byte, or ends a token there or further on
+abbrev pub Moves : List ℕ → State → ℕ → Turn → Type 0
+Moves bs s at (turn.Go t) = Standing bs t (at + 1)
+Moves bs s at (turn.Made p to) = (at < to + busy s) × (to ≤ length bs) × Sized (lexeme p.token)
+Moves bs s at turn.End = Unit {0}
+
+-- ---- one token at a time
 -- a token is read from a place up to another one, further on and not past the end
 abbrev pub Spans : List ℕ → ℕ → Lexeme → ℕ → Type 0
 Spans bs from t to = (from < to) × (to ≤ length bs) × Sized t
 
--- such a token, or the end of the text
-abbrev pub found_at : List ℕ → ℕ → Result (Option (Token × ℕ)) NoToken → Lexed
-found_at bs at (Ok (Some x)) = cons (at, lexeme x.0) (lexed x.1 (drop x.1 bs))
-found_at bs at (Ok None) = done
-found_at bs at (Err e) = refused e.place
-
--- so with separators before it
+-- the token that was found from a place on and what follows it, or the end of the text, or what is no token
 abbrev pub found : List ℕ → Result (Option (Placed × ℕ)) NoToken → Lexed
 found bs (Ok (Some x)) = cons (shown x.0) (lexed x.1 (drop x.1 bs))
 found bs (Ok None) = done

@@ -1,9 +1,8 @@
-ghost use Rattle.std.specs.Prelude.{◌≡◌, ◌+◌, ◌<◌, ◌≤◌, ◌^◌, ℕ, Bool, true, [], take, drop, length, SomeIff, IfOk, IfSome};
-ghost use Rattle.token.specs.Classes.{separator, byte_class};
-ghost use Rattle.token.specs.Tokens.{name_byte, number_byte, text_byte, front, digit_in, value, width_of, allowed_body, lexeme, word_of, name_from, number_from, text_from, lexed, found, found_at, written, Spans, NextIs};
-ghost use Rattle.token.specs.Laid.{stops};
+ghost use Rattle.std.specs.Prelude.{◌≡◌, ◌+◌, ◌*◌, ◌^◌, ◌<◌, ◌≤◌, drop, length, SomeIff, IfOk, IfSome};
+ghost use Rattle.token.specs.declared.scan.Turn.TheVariants as turn;
+ghost use Rattle.token.specs.Tokens.{lexeme, width_of, word_of, allowed_body, lexed, Standing, resumed, after, Moves, found, Spans, NextIs};
 
-use super::{Class, Placed, Token, byte_class, class_of};
+use super::{Class, Placed, Token, class_of};
 use operators::Op;
 use strings::decoded_len;
 
@@ -16,63 +15,36 @@ pub struct NoToken {
 /// The most bytes that a name has.
 const NAME_LIMIT: usize = 24;
 
-/// How many bytes at the front pass.
-fn run<F: Fn(u8) -> bool>(bytes: &[u8], passes: F) -> usize
-    requires { F.IsAlwaysCallable passes }
-    ensures within { result ≤ length bytes.now }
-    ensures longest { (p : ℕ → Bool) → ((b : ℕ) (yes : Bool) → F.post passes b yes → yes ≡ p b) → result ≡ length (front p bytes.now) }
-{
-    for (i, b) in bytes.iter().enumerate() {
-        if !passes(*b) {
-            return i;
-        }
-    }
-    bytes.len()
+/// Where the reader stands, with the place at which the open token began, and the value of the digits so far.
+#[derive(Clone, Copy)]
+enum State {
+    Between,
+    InName(usize),
+    InNumber(usize, u64),
+    InText(usize),
 }
 
-fn is_separator(b: u8) -> bool
-    ensures { result ≡ separator b }
-{
-    matches!(b, b' ' | b'\t' | b'\n')
+/// What one step gives.
+enum Turn<'a> {
+    /// The byte belongs to what is open, or opens it.
+    Go(State),
+    /// A token, with the place after it.
+    Made(Placed<'a>, usize),
+    End,
 }
 
-fn is_name_byte(b: u8) -> bool
-    ensures { result ≡ name_byte b }
+/// A token that was read at a place, with the place after it.
+fn made<'a>(place: usize, token: Token<'a>, to: usize) -> Turn<'a>
+    ensures { result ≡ turn.Made (record { place = place; token = token.entry }) to }
 {
-    matches!(byte_class(b), Class::Letter | Class::Digit(_) | Class::Low)
+    Turn::Made(Placed { place, token }, to)
 }
 
-fn is_digit(b: u8) -> bool
-    ensures { result ≡ number_byte b }
+/// A number with one more decimal digit, unless it is too large.
+fn with_digit(n: u64, digit: u8) -> Option<u64>
+    ensures { SomeIff result (n * 10 + digit < 2 ^ 64) (n * 10 + digit) }
 {
-    matches!(byte_class(b), Class::Digit(_))
-}
-
-fn is_text_byte(b: u8) -> bool
-    ensures { result ≡ text_byte b }
-{
-    !matches!(byte_class(b), Class::Quote | Class::End)
-}
-
-/// What a digit counts.
-fn digit(b: u8) -> u64
-    ensures { result ≡ digit_in (byte_class b) }
-{
-    match byte_class(b) {
-        Class::Digit(d) => u64::from(d),
-        _ => 0,
-    }
-}
-
-/// The number that decimal digits write, unless it is too large.
-fn decimal(digits: &[u8]) -> Option<u64>
-    ensures { SomeIff result (value 0 digits.now < 2 ^ 64) (value 0 digits.now) }
-{
-    let mut n: u64 = 0;
-    for b in digits {
-        n = n.checked_mul(10)?.checked_add(digit(*b))?;
-    }
-    Some(n)
+    n.checked_mul(10)?.checked_add(u64::from(digit))
 }
 
 /// The token that a word is.
@@ -103,62 +75,43 @@ fn width(op: Op) -> usize
     }
 }
 
-/// The word that begins at a place, with the place after it.
-fn name<'a>(text: &'a [u8], at: usize) -> Result<(Token<'a>, usize), NoToken>
-    requires { at < length text.now }
-    ensures reads { name_from lexed at (take 1 (drop at text.now)) (at + 1) (drop 1 (drop at text.now)) ≡ written text.now at result }
-    ensures moves { IfOk result (λ x. Spans text.now at (lexeme x.0) x.1) }
+/// What the byte at a place does to a reader that stands there.
+#[tactic(auto, using(crate::proofs::Turns::turns))]
+fn step<'a>(text: &'a [u8], state: State, at: usize) -> Result<Turn<'a>, NoToken>
+    requires { Standing text.now state at }
+    ensures reads { resumed text.now state at ≡ after text.now at result }
+    ensures moves { IfOk result (Moves text.now state at) }
 {
-    let to = at + 1 + run(&text[at + 1..], is_name_byte);
-    if to - at > NAME_LIMIT {
-        return Err(NoToken { place: at });
-    }
-    Ok((word(&text[at..to]), to))
-}
-
-/// The number that begins at a place, with the place after it.
-fn number<'a>(text: &'a [u8], at: usize) -> Result<(Token<'a>, usize), NoToken>
-    requires { at < length text.now }
-    ensures reads { number_from lexed at (value 0 (take 1 (drop at text.now))) (at + 1) (drop 1 (drop at text.now)) ≡ written text.now at result }
-    ensures moves { IfOk result (λ x. Spans text.now at (lexeme x.0) x.1) }
-{
-    let to = at + 1 + run(&text[at + 1..], is_digit);
-    match decimal(&text[at..to]) {
-        Some(n) => Ok((Token::Number(n), to)),
-        None => Err(NoToken { place: at }),
-    }
-}
-
-/// The string that begins at a place, with the place after its closing quote.
-fn string<'a>(text: &'a [u8], at: usize) -> Result<(Token<'a>, usize), NoToken>
-    requires { at < length text.now }
-    ensures reads { text_from lexed at [] (at + 1) (drop 1 (drop at text.now)) ≡ written text.now at result }
-    ensures moves { IfOk result (λ x. Spans text.now at (lexeme x.0) x.1) }
-{
-    let to = at + 1 + run(&text[at + 1..], is_text_byte);
-    let body = &text[at + 1..to];
-    if to < text.len() && allowed(body) {
-        Ok((Token::Text(body), to + 1))
-    } else {
-        Err(NoToken { place: at })
-    }
-}
-
-/// The token at a place that no separator stands at, with the place after it; none at the end.
-fn token_at<'a>(text: &'a [u8], at: usize) -> Result<Option<(Token<'a>, usize)>, NoToken>
-    requires within { at ≤ length text.now }
-    requires no_gap { stops separator (drop at text.now) ≡ true }
-    ensures reads { lexed at (drop at text.now) ≡ found_at text.now at result }
-    ensures moves { IfOk result (λ found. IfSome found (λ x. Spans text.now at (lexeme x.0) x.1)) }
-{
-    match class_of(&text[at..]) {
-        Class::End => Ok(None),
-        Class::Letter => Ok(Some(name(text, at)?)),
-        Class::Digit(_) => Ok(Some(number(text, at)?)),
-        Class::Quote => Ok(Some(string(text, at)?)),
-        Class::Mark(mark) => Ok(Some((Token::Mark(mark), at + 1))),
-        Class::Operator(op) => Ok(Some((Token::Operator(op), at + width(op)))),
-        Class::Space | Class::Low | Class::Other => Err(NoToken { place: at }),
+    match (state, class_of(&text[at..])) {
+        (State::Between, Class::End) => Ok(Turn::End),
+        (State::Between, Class::Space) => Ok(Turn::Go(State::Between)),
+        (State::Between, Class::Letter) => Ok(Turn::Go(State::InName(at))),
+        (State::Between, Class::Digit(d)) => Ok(Turn::Go(State::InNumber(at, u64::from(d)))),
+        (State::Between, Class::Quote) => Ok(Turn::Go(State::InText(at))),
+        (State::Between, Class::Mark(mark)) => Ok(made(at, Token::Mark(mark), at + 1)),
+        (State::Between, Class::Operator(op)) => Ok(made(at, Token::Operator(op), at + width(op))),
+        (State::Between, Class::Low | Class::Other) => Err(NoToken { place: at }),
+        (State::InName(from), Class::Letter | Class::Digit(_) | Class::Low) => {
+            if at - from >= NAME_LIMIT {
+                return Err(NoToken { place: from });
+            }
+            Ok(Turn::Go(State::InName(from)))
+        }
+        (State::InName(from), _) => Ok(made(from, word(&text[from..at]), at)),
+        (State::InNumber(from, n), Class::Digit(d)) => {
+            let n = with_digit(n, d).ok_or(NoToken { place: from })?;
+            Ok(Turn::Go(State::InNumber(from, n)))
+        }
+        (State::InNumber(from, n), _) => Ok(made(from, Token::Number(n), at)),
+        (State::InText(from), Class::End) => Err(NoToken { place: from }),
+        (State::InText(from), Class::Quote) => {
+            let body = &text[from + 1..at];
+            if !allowed(body) {
+                return Err(NoToken { place: from });
+            }
+            Ok(made(from, Token::Text(body), at + 1))
+        }
+        (State::InText(from), _) => Ok(Turn::Go(State::InText(from))),
     }
 }
 
@@ -168,10 +121,17 @@ pub fn scan<'a>(text: &'a [u8], from: usize) -> Result<Option<(Placed<'a>, usize
     ensures reads { lexed from (drop from text.now) ≡ found text.now result }
     ensures moves { IfOk result (λ found. IfSome found (λ x. Spans text.now from (lexeme x.0.token) x.1)) }
 {
-    let place = from + run(&text[from..], is_separator);
-    match token_at(text, place)? {
-        Some((token, to)) => Ok(Some((Placed { place, token }, to))),
-        None => Ok(None),
+    let mut state = State::Between;
+    let mut at = from;
+    loop {
+        match step(text, state, at)? {
+            Turn::Go(next) => {
+                state = next;
+                at += 1;
+            }
+            Turn::Made(token, to) => return Ok(Some((token, to))),
+            Turn::End => return Ok(None),
+        }
     }
 }
 

@@ -10,26 +10,26 @@ use Rattle.token.specs.declared.Mark.TheVariants.{Close}
 use Rattle.expr.proofs.Turns.{there, reads_there, refuses_there, begins, no_operator, item_refused, goes_on, second_refused, both_sides, bracket_refused, bracket_open, bracket_closed}
 use Rattle.expr.proofs.+expression.Goals as goal
 
-pub expression-returns-in_err-operand-2-clause-told : goal.expression-returns-in_err-operand-2-clause-told
-expression-returns-in_err-operand-2-clause-told t c =
-    let p = err_from_is_err_and c.from_residual-in_err-operand-2.result c.from_residual-in_err-operand-2.ensures.1 in
+pub expression-returns-in_err-sum-2-clause-told : goal.expression-returns-in_err-sum-2-clause-told
+expression-returns-in_err-sum-2-clause-told t c =
+    let p = err_from_is_err_and c.from_residual-in_err-sum-2.result c.from_residual-in_err-sum-2.ensures.1 in
     let now = c.args.tokens.now in
     let op = c.in-Some.ensures in
     let next = c.operator.new.tokens in
-    let left = c.operand-in-Some.new.tokens.left in
-    let same = op.0 ∙ c.in_ok-operand.ensures.moves.same_text in
-    let told = there same (λ n. sum_at n c.args.deeper) next.left left (Err c.in_err-operand-2.field-0.0) (codes c.operand.new.out) (codes c.operand-in-Some.new.out) c.in_err-operand-2.ensures.told in
-    rw (p.1, p.2) (second_refused (sum_at now.end c.args.deeper) now.left c.operand.new.tokens.left (codes c.args.out.now) (codes c.operand.new.out) c.in_ok-operand.ensures.told op.1 next.left c.in-Some.op op.2 op.3 _ left (codes c.operand-in-Some.new.out) told)
+    let left = c.sum-in-Some.new.tokens.left in
+    let same = op.0 ∙ c.in_ok-sum.ensures.moves.same_text in
+    let told = there same (λ n. sum_at n c.args.deeper) next.left left (Err c.in_err-sum-2.field-0.0) (codes c.sum.new.out) (codes c.sum-in-Some.new.out) c.in_err-sum-2.ensures.told in
+    rw (p.1, p.2) (second_refused (sum_at now.end c.args.deeper) now.left c.sum.new.tokens.left (codes c.args.out.now) (codes c.sum.new.out) c.in_ok-sum.ensures.told op.1 next.left c.in-Some.op op.2 op.3 _ left (codes c.sum-in-Some.new.out) told)
 
-pub expression-returns-in_ok-operand-2-clause-told : goal.expression-returns-in_ok-operand-2-clause-told
-expression-returns-in_ok-operand-2-clause-told t c =
+pub expression-returns-in_ok-sum-2-clause-told : goal.expression-returns-in_ok-sum-2-clause-told
+expression-returns-in_ok-sum-2-clause-told t c =
     let now = c.args.tokens.now in
     let op = c.in-Some.ensures in
     let next = c.operator.new.tokens in
-    let left = c.operand-in-Some.new.tokens.left in
-    let same = op.0 ∙ c.in_ok-operand.ensures.moves.same_text in
-    let told = there same (λ n. sum_at n c.args.deeper) next.left left (Ok tt) (codes c.operand.new.out) (codes c.operand-in-Some.new.out) c.in_ok-operand-2.ensures.told in
-    both_sides (sum_at now.end c.args.deeper) now.left c.operand.new.tokens.left (codes c.args.out.now) (codes c.operand.new.out) c.in_ok-operand.ensures.told op.1 next.left c.in-Some.op op.2 op.3 left (codes c.operand-in-Some.new.out) (codes c.emit.new.out) told c.emit.ensures
+    let left = c.sum-in-Some.new.tokens.left in
+    let same = op.0 ∙ c.in_ok-sum.ensures.moves.same_text in
+    let told = there same (λ n. sum_at n c.args.deeper) next.left left (Ok tt) (codes c.sum.new.out) (codes c.sum-in-Some.new.out) c.in_ok-sum-2.ensures.told in
+    both_sides (sum_at now.end c.args.deeper) now.left c.sum.new.tokens.left (codes c.args.out.now) (codes c.sum.new.out) c.in_ok-sum.ensures.told op.1 next.left c.in-Some.op op.2 op.3 left (codes c.sum-in-Some.new.out) (codes c.emit.new.out) told c.emit.ensures
 
 pub joined-loop-op-init : goal.joined-loop-op-init
 joined-loop-op-init t c =

@@ -9,8 +9,8 @@ use Rattle.expr.proofs.+expression.Given as goal
 
 abbrev depth : Level → ℕ
 depth level.Product = 1
-depth level.Sum = 3
-depth level.Compare = 5
+depth level.Sum = 4
+depth level.Compare = 7
 
 abbrev pub decreases-part : goal.decreases-part
 decreases-part l = 8 * length l.tokens.now.left
@@ -20,6 +20,12 @@ decreases-operand l = 8 * length l.tokens.now.left + depth l.level
 
 abbrev pub decreases-joined : goal.decreases-joined
 decreases-joined l = 8 * length l.tokens.now.left + depth l.level + 1
+
+abbrev pub decreases-product : goal.decreases-product
+decreases-product l = 8 * length l.tokens.now.left + 3
+
+abbrev pub decreases-sum : goal.decreases-sum
+decreases-sum l = 8 * length l.tokens.now.left + 6
 
 abbrev pub decreases-expression : goal.decreases-expression
 decreases-expression l = 8 * length l.tokens.now.left + 7
