@@ -10,4 +10,6 @@ mod readers;
 mod sides;
 #[cfg(test)]
 mod stacks;
+#[cfg(test)]
+mod told;
 pub mod two;

@@ -1,16 +1,9 @@
 use crate::any_reader::{read_both, used};
-use fields::{Builtin, FieldReader, Reading, reader_name, reader_number};
-use input::{Bench, SliceInput, Window, WindowInput};
+use crate::told::{at, reading};
+use fields::{Builtin, FieldReader, reader_name, reader_number};
+use input::{Bench, SliceInput, WindowInput};
 
 const BYTES: [u8; 10] = [0x81, 0x02, 0x03, 0x84, 0x05, 0x06, 0x07, 0x88, 0x09, 0xFF];
-
-fn at(left: usize, right: usize) -> Window {
-    Window { left, right }
-}
-
-fn reading(value: u64, used: usize) -> Option<Reading> {
-    Some(Reading { value, used })
-}
 
 #[test]
 fn shortest_windows(rt: HostRuntime) {

@@ -1,16 +1,9 @@
 use crate::length24::Length24;
-use fields::{Builtin, FieldReader, Joined, Reading};
-use input::{SliceInput, Window};
+use crate::told::{at, reading};
+use fields::{Builtin, FieldReader, Joined};
+use input::SliceInput;
 
 const BYTES: [u8; 4] = [0x01, 0x02, 0x03, 0x04];
-
-fn at(left: usize, right: usize) -> Window {
-    Window { left, right }
-}
-
-fn reading(value: u64, used: usize) -> Option<Reading> {
-    Some(Reading { value, used })
-}
 
 #[test]
 fn a_reader_of_ones_own(rt: HostRuntime) {
