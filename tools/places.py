@@ -18,7 +18,7 @@ PATTERNS = [
     (1, "let-else that gives none in an answer", r"else \{\s*return Ok\(None\);\s*\}"),
     (1, "a match or if that wraps again", r"None => None,|Err\((\w+)\) => Err\(\1\),|Some\(_\) => false,|Ok\(_\) => Ok\(\(\)\),|Some\(\((\w+), (\w+)\)\) => Some|else \{\s*None\s*\}"),
     (1, "a flag with a value beside it", r"\(bool, \w+\)|\w+: bool\b"),
-    (1, "numbers for kinds", r"const [A-Z0-9]+: u(?:8|16) = "),
+    (1, "numbers for kinds", r"const [A-Z0-9_]+: u(?:8|16) = "),
     (1, "a number where nothing is given", r"fn \w+\(\) -> u8"),
     (1, "own enums", r"enum \w+"),
     (3, "index loops", r"for \w+ in [\w.]+\.\.[\w.()]+"),
@@ -26,8 +26,8 @@ PATTERNS = [
     (4, "equality or conversion by hand", r"fn (?:same|is_word|hex|hex_digit|blank\w*|numbers|answer_of)\b|fn of\(res"),
     (4, "casts", r" as u64| as usize| as u16"),
     (4, "fields copied one by one", r"^\s+(\w+): \w+\.\1,$"),
-    (6, "a length beside a buffer", r"^\s+(?:pub )?(?:len|count): u\w+,$"),
-    (6, "arrays of a fixed size in a type", r"^\s+(?:pub )?\w+: \[\w+; \w+\],$"),
+    (6, "a length beside a buffer", r"^\s+(?:pub(?:\(crate\))? )?(?:len|count): u\w+,$"),
+    (6, "arrays of a fixed size in a type", r"^\s+(?:pub(?:\(crate\))? )?\w+: \[\w+; \w+\],$"),
     (7, "tables of functions, dyn, function pointers", r"\bdyn \w|: fn\("),
 ]
 

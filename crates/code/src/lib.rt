@@ -23,9 +23,12 @@ pub enum Code {
     Bracket,
 }
 
+/// The code of a draft's expressions, with room for one piece more than a draft may have.
+pub type Codes = Arena<Code, 1025>;
+
 /// Appends one piece of code, unless there is no more room.
 #[tactic(auto, using(arena::proofs::Bounds::seen))]
-pub fn emit(out: &mut Arena<Code, 1025>, code: Code)
+pub fn emit(out: &mut Codes, code: Code)
     ensures { codes out.new ≡ upto 1025 (codes out.old) (piece code ∷ []) }
 {
     out.put(code);

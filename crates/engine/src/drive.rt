@@ -27,7 +27,7 @@ impl<'a> Tables<'a> {
             Mode::Tries(c, i, k) => self.try_next(setting.grammar, c, i, k),
             Mode::Returns(me) => self.give_back(me),
             Mode::GivesUp(me) => self.give_up(me),
-            _ => mode,
+            Mode::Matched | Mode::Failed | Mode::Stopped(_) => mode,
         }
     }
 

@@ -18,6 +18,7 @@ mod setting;
 mod steps;
 mod tables;
 mod terms;
+#[cfg(test)]
 mod tests;
 
 pub use frame::Frame;

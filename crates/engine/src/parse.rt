@@ -103,12 +103,9 @@ impl<'a, I: Input, R: FieldReader> Setting<'a, I, R> {
 fn permitted(budget: u64, frames: usize, nodes: usize) -> bool
     ensures { result ≡ allowed budget frames nodes }
 {
-    1 <= budget
-        && budget <= 1000000
-        && 1 <= frames
-        && frames <= 4096
-        && 1 <= nodes
-        && nodes <= 65535
+    (1..=1_000_000).contains(&budget)
+        && (1..=4096).contains(&frames)
+        && (1..=65_535).contains(&nodes)
 }
 
 // A rule is begun on all of `len` bytes.

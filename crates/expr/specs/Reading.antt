@@ -147,7 +147,7 @@ Refuses (Deep p) want = want ≡ deep p
 -- a token was taken; or none is left
 abbrev pub Took : Ahead → Result Placed Refusal → Ahead → Type 0
 Took old (Ok p) new = Takes old (Some p) new
-Took old (Err e) new = (e ≡ Form old.end) × (old.left ≡ [])
+Took old (Err e) new = (new ≡ old) × (e ≡ Form old.end) × (old.left ≡ [])
 
 -- whether a mark stands first
 abbrev pub marked : Mark → List Tok → Bool

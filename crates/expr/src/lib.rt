@@ -7,8 +7,7 @@ ghost use Rattle.code.specs.Names.{letters};
 ghost use Rattle.code.specs.Pieces.{codes};
 ghost use Rattle.expr.specs.Reading.{level_of, TakesOperator, field_at, ReadsField, Wrote, named_at, part_at, product_at, sum_at, operand_at, joined_at, expression_at};
 
-use arena::Arena;
-use code::{Code, Name, emit};
+use code::{Code, Codes, Name, emit};
 use operators::Op;
 use token::{Mark, Token, Tokens};
 
@@ -60,7 +59,7 @@ fn operator(tokens: &mut Tokens, level: Level) -> Option<Op>
 /// The attribute named after a dot; none where no dot stands next.
 fn field(tokens: &mut Tokens) -> Result<Option<Name>, Refusal>
     ensures told { ReadsField result (field_at tokens.old.end tokens.old.left) tokens.new.left }
-    ensures moves { OnOk result (AdvancesOrStays tokens.old tokens.new) }
+    ensures moves { AdvancesOrStays tokens.old tokens.new }
 {
     if !take_mark(tokens, Mark::Dot) {
         return Ok(None);
@@ -70,9 +69,9 @@ fn field(tokens: &mut Tokens) -> Result<Option<Name>, Refusal>
 }
 
 /// The code of a name that was taken, or of the field that it is followed by.
-fn named(tokens: &mut Tokens, name: Name, out: &mut Arena<Code, 1025>) -> Result<(), Refusal>
+fn named(tokens: &mut Tokens, name: Name, out: &mut Codes) -> Result<(), Refusal>
     ensures told { Wrote result (named_at tokens.old.end (letters name) tokens.old.left) tokens.new.left (codes out.old) (codes out.new) }
-    ensures moves { OnOk result (AdvancesOrStays tokens.old tokens.new) }
+    ensures moves { AdvancesOrStays tokens.old tokens.new }
 {
     match field(tokens)? {
         Some(attribute) => emit(out, Code::Field(name, attribute)),
@@ -82,9 +81,10 @@ fn named(tokens: &mut Tokens, name: Name, out: &mut Arena<Code, 1025>) -> Result
 }
 
 #[cycle(expression)]
-fn part(tokens: &mut Tokens, deeper: usize, out: &mut Arena<Code, 1025>) -> Result<(), Refusal>
+fn part(tokens: &mut Tokens, deeper: usize, out: &mut Codes) -> Result<(), Refusal>
     ensures told { Wrote result (part_at tokens.old.end deeper tokens.old.left) tokens.new.left (codes out.old) (codes out.new) }
     ensures moves { OnOk result (Advances tokens.old tokens.new) }
+    ensures kept { AdvancesOrStays tokens.old tokens.new }
 {
     let first = take(tokens)?;
     match first.token {
@@ -112,14 +112,10 @@ fn part(tokens: &mut Tokens, deeper: usize, out: &mut Arena<Code, 1025>) -> Resu
 
 /// What the operators of a level join.
 #[cycle(expression)]
-fn operand(
-    tokens: &mut Tokens,
-    level: Level,
-    deeper: usize,
-    out: &mut Arena<Code, 1025>,
-) -> Result<(), Refusal>
+fn operand(tokens: &mut Tokens, level: Level, deeper: usize, out: &mut Codes) -> Result<(), Refusal>
     ensures told { Wrote result (operand_at level tokens.old.end deeper tokens.old.left) tokens.new.left (codes out.old) (codes out.new) }
     ensures moves { OnOk result (Advances tokens.old tokens.new) }
+    ensures kept { AdvancesOrStays tokens.old tokens.new }
 {
     match level {
         Level::Product => part(tokens, deeper, out),
@@ -130,14 +126,10 @@ fn operand(
 
 /// Operands joined by the operators of a level, from the left.
 #[cycle(expression)]
-fn joined(
-    tokens: &mut Tokens,
-    level: Level,
-    deeper: usize,
-    out: &mut Arena<Code, 1025>,
-) -> Result<(), Refusal>
+fn joined(tokens: &mut Tokens, level: Level, deeper: usize, out: &mut Codes) -> Result<(), Refusal>
     ensures told { Wrote result (joined_at level tokens.old.end deeper tokens.old.left) tokens.new.left (codes out.old) (codes out.new) }
     ensures moves { OnOk result (Advances tokens.old tokens.new) }
+    ensures kept { AdvancesOrStays tokens.old tokens.new }
 {
     operand(tokens, level, deeper, out)?;
     while let Some(op) = operator(tokens, level) {
@@ -149,31 +141,30 @@ fn joined(
 
 /// Parts joined by `*`, `/`, `%` and `<<`.
 #[cycle(expression)]
-fn product(tokens: &mut Tokens, deeper: usize, out: &mut Arena<Code, 1025>) -> Result<(), Refusal>
+fn product(tokens: &mut Tokens, deeper: usize, out: &mut Codes) -> Result<(), Refusal>
     ensures told { Wrote result (product_at tokens.old.end deeper tokens.old.left) tokens.new.left (codes out.old) (codes out.new) }
     ensures moves { OnOk result (Advances tokens.old tokens.new) }
+    ensures kept { AdvancesOrStays tokens.old tokens.new }
 {
     joined(tokens, Level::Product, deeper, out)
 }
 
 /// Products joined by `+` and `-`.
 #[cycle(expression)]
-fn sum(tokens: &mut Tokens, deeper: usize, out: &mut Arena<Code, 1025>) -> Result<(), Refusal>
+fn sum(tokens: &mut Tokens, deeper: usize, out: &mut Codes) -> Result<(), Refusal>
     ensures told { Wrote result (sum_at tokens.old.end deeper tokens.old.left) tokens.new.left (codes out.old) (codes out.new) }
     ensures moves { OnOk result (Advances tokens.old tokens.new) }
+    ensures kept { AdvancesOrStays tokens.old tokens.new }
 {
     joined(tokens, Level::Sum, deeper, out)
 }
 
-/// An expression with at most `deeper` brackets open: its code is appended. After a refusal the tokens stand anywhere.
+/// An expression with at most `deeper` brackets open: its code is appended. After a refusal the tokens stand further on, or where they stood.
 #[cycle(expression)]
-pub fn expression(
-    tokens: &mut Tokens,
-    deeper: usize,
-    out: &mut Arena<Code, 1025>,
-) -> Result<(), Refusal>
+pub fn expression(tokens: &mut Tokens, deeper: usize, out: &mut Codes) -> Result<(), Refusal>
     ensures told { Wrote result (expression_at tokens.old.end deeper tokens.old.left) tokens.new.left (codes out.old) (codes out.new) }
     ensures moves { OnOk result (Advances tokens.old tokens.new) }
+    ensures kept { AdvancesOrStays tokens.old tokens.new }
 {
     sum(tokens, deeper, out)?;
     if let Some(op) = operator(tokens, Level::Compare) {

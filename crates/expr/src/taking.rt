@@ -1,5 +1,5 @@
 ghost use Rattle.std.specs.Prelude.{◌≡◌, OnOk};
-ghost use Rattle.token.specs.Ahead.{Advances};
+ghost use Rattle.token.specs.Ahead.{Advances, AdvancesOrStays};
 ghost use Rattle.expr.specs.Reading.{Took, TakesMark, Tells, mark_at, Names, name_at};
 
 use super::Refusal;
@@ -31,6 +31,7 @@ pub fn take_mark(tokens: &mut Tokens, wanted: Mark) -> bool
 pub fn mark(tokens: &mut Tokens, wanted: Mark) -> Result<(), Refusal>
     ensures told { Tells result (mark_at wanted tokens.old.end tokens.old.left) tokens.new.left }
     ensures moves { OnOk result (Advances tokens.old tokens.new) }
+    ensures kept { AdvancesOrStays tokens.old tokens.new }
 {
     let first = take(tokens)?;
     if first.token.is_mark(wanted) {
@@ -44,6 +45,7 @@ pub fn mark(tokens: &mut Tokens, wanted: Mark) -> Result<(), Refusal>
 pub fn name(tokens: &mut Tokens) -> Result<(Name, usize), Refusal>
     ensures told { Names result (name_at tokens.old.end tokens.old.left) tokens.new.left }
     ensures moves { OnOk result (Advances tokens.old tokens.new) }
+    ensures kept { AdvancesOrStays tokens.old tokens.new }
 {
     let first = take(tokens)?;
     match first.token {

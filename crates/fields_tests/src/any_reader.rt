@@ -9,10 +9,9 @@ use input::{Input, Window};
 pub fn used<R: FieldReader, I: Input>(reader: &R, number: u16, input: &I, window: Window) -> usize
     ensures { result ≤ window.right - window.left }
 {
-    match reader.read(number, input, window) {
-        Some(reading) => reading.used,
-        None => 0,
-    }
+    reader
+        .read(number, input, window)
+        .map_or(0, |reading| reading.used)
 }
 
 fn whole<I: Input>(input: &I) -> Window

@@ -22,10 +22,8 @@ impl Patch {
         if bytes.is_empty() {
             return Err(Refusal::PatchLength);
         }
-        match ArrayVec::try_from(bytes) {
-            Ok(bytes) => Ok(Patch { place, bytes }),
-            Err(_) => Err(Refusal::PatchLength),
-        }
+        let bytes = ArrayVec::try_from(bytes).map_err(|_| Refusal::PatchLength)?;
+        Ok(Patch { place, bytes })
     }
 
     /// The byte that it shows at a place, if any.

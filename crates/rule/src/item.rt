@@ -1,6 +1,6 @@
 ghost use Rattle.std.specs.Prelude.{ℕ, Bool, List, length, OnOk};
 ghost use Rattle.token.specs.Tokens.{Tok};
-ghost use Rattle.token.specs.Ahead.{Advances};
+ghost use Rattle.token.specs.Ahead.{Advances, AdvancesOrStays};
 ghost use Rattle.expr.specs.Reading.{Read};
 ghost use Rattle.term.specs.Reading.{Adds};
 ghost use Rattle.term.specs.Tables.{Tables, Kept, tables};
@@ -23,7 +23,8 @@ pub trait Item {
     /// Reads one and adds it, and tells whether it is the last.
     fn add(tokens: &mut Tokens, out: &mut Arenas) -> Result<bool, Refusal>
         ensures told { AddsItem result (form tokens.old.end tokens.old.left) tokens.new.left emit (tables out.old) (tables out.new) }
-        ensures moves { OnOk result (Advances tokens.old tokens.new) };
+        ensures moves { OnOk result (Advances tokens.old tokens.new) }
+        ensures kept { AdvancesOrStays tokens.old tokens.new };
 
     ghost keeps: { (T : Tables) (x : Tree) → Kept T (emit T x) };
 }
@@ -32,6 +33,7 @@ pub trait Item {
 pub fn add_all<I: Item>(tokens: &mut Tokens, out: &mut Arenas) -> Result<(), Refusal>
     ensures told { Adds result (several (I.form tokens.old.end) (length tokens.old.left) tokens.old.left) tokens.new.left (emit_all I.emit) (tables out.old) (tables out.new) }
     ensures moves { OnOk result (Advances tokens.old tokens.new) }
+    ensures kept { AdvancesOrStays tokens.old tokens.new }
 {
     loop {
         let last = I::add(tokens, out)?;

@@ -2,7 +2,7 @@
 #![tactic(auto)]
 
 ghost use Rattle.std.specs.Prelude.{◌≡◌, OnOk};
-ghost use Rattle.token.specs.Ahead.{Advances};
+ghost use Rattle.token.specs.Ahead.{Advances, AdvancesOrStays};
 ghost use Rattle.term.specs.Reading.{Adds};
 ghost use Rattle.term.specs.Tables.{tables};
 ghost use Rattle.rule.specs.Form.{branch_end, rules_at};
@@ -24,6 +24,7 @@ use items::Rules;
 fn branch_end(tokens: &mut Tokens) -> Result<bool, Refusal>
     ensures told { Ends result (branch_end tokens.old.end tokens.old.left) tokens.new.left }
     ensures moves { OnOk result (Advances tokens.old tokens.new) }
+    ensures kept { AdvancesOrStays tokens.old tokens.new }
 {
     let first = take(tokens)?;
     match first.token {
@@ -33,10 +34,11 @@ fn branch_end(tokens: &mut Tokens) -> Result<bool, Refusal>
     }
 }
 
-/// One or more rules, up to the end of the text. After a refusal the tokens stand anywhere.
+/// One or more rules, up to the end of the text. After a refusal the tokens stand further on, or where they stood.
 pub fn add_rules(tokens: &mut Tokens, out: &mut Arenas) -> Result<(), Refusal>
     ensures told { Adds result (rules_at tokens.old.end tokens.old.left) tokens.new.left (emit_all emit_rule) (tables out.old) (tables out.new) }
     ensures moves { OnOk result (Advances tokens.old tokens.new) }
+    ensures kept { AdvancesOrStays tokens.old tokens.new }
 {
     add_all::<Rules>(tokens, out)
 }

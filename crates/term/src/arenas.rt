@@ -2,7 +2,7 @@ ghost use Rattle.std.specs.Prelude.{◌≡◌, IfOk};
 ghost use Rattle.term.specs.Tables.{tables, blank};
 
 use arena::{Arena, Span, Term};
-use code::{Code, Name};
+use code::{Codes, Name};
 use std::alloc::{AllocError, Global};
 
 /// A term as it was read: calls and attributes go by name, an attribute's with its place in the text.
@@ -23,7 +23,7 @@ pub struct Arenas {
     pub alternatives: Arena<Span, 97>,
     pub terms: Arena<NamedTerm, 257>,
     pub bytes: Arena<u8, 513>,
-    pub code: Arena<Code, 1025>,
+    pub code: Codes,
 }
 
 impl Arenas {

@@ -2,7 +2,7 @@
 #![tactic(auto)]
 
 ghost use Rattle.std.specs.Prelude.{◌≡◌, OnOk};
-ghost use Rattle.token.specs.Ahead.{Advances};
+ghost use Rattle.token.specs.Ahead.{Advances, AdvancesOrStays};
 ghost use Rattle.strings.specs.Decoding.{bytes_of};
 ghost use Rattle.code.specs.Names.{letters};
 ghost use Rattle.code.specs.Pieces.{codes};
@@ -11,8 +11,8 @@ ghost use Rattle.term.specs.Form.{expr_at, equals_at, range_at, literal_at, call
 ghost use Rattle.term.specs.Tables.{tables, emit_term};
 ghost use Rattle.term.specs.Reading.{Spanned, Ranged, Adds};
 
-use arena::{Arena, Ends, Span, Term};
-use code::{Code, Name};
+use arena::{Ends, Span, Term};
+use code::{Codes, Name};
 use expr::{Refusal, expression, mark, name, take};
 use operators::Op;
 use strings::decode_into;
@@ -29,6 +29,7 @@ const DEPTH: usize = 16;
 fn equals(tokens: &mut Tokens) -> Result<(), Refusal>
     ensures told { Tells result (equals_at tokens.old.end tokens.old.left) tokens.new.left }
     ensures moves { OnOk result (Advances tokens.old tokens.new) }
+    ensures kept { AdvancesOrStays tokens.old tokens.new }
 {
     let first = take(tokens)?;
     if first.token.is_operator(Op::Equal) {
@@ -39,9 +40,10 @@ fn equals(tokens: &mut Tokens) -> Result<(), Refusal>
 }
 
 /// An expression: the part of the code that it got.
-fn value(tokens: &mut Tokens, out: &mut Arena<Code, 1025>) -> Result<Span, Refusal>
+fn value(tokens: &mut Tokens, out: &mut Codes) -> Result<Span, Refusal>
     ensures told { Spanned result (expr_at tokens.old.end tokens.old.left) tokens.new.left (codes out.old) (codes out.new) }
     ensures moves { OnOk result (Advances tokens.old tokens.new) }
+    ensures kept { AdvancesOrStays tokens.old tokens.new }
 {
     let from = out.len();
     expression(tokens, DEPTH, out)?;
@@ -50,9 +52,10 @@ fn value(tokens: &mut Tokens, out: &mut Arena<Code, 1025>) -> Result<Span, Refus
 }
 
 /// `[e, e]`
-fn range(tokens: &mut Tokens, out: &mut Arena<Code, 1025>) -> Result<Ends, Refusal>
+fn range(tokens: &mut Tokens, out: &mut Codes) -> Result<Ends, Refusal>
     ensures told { Ranged result (range_at tokens.old.end tokens.old.left) tokens.new.left (codes out.old) (codes out.new) }
     ensures moves { OnOk result (Advances tokens.old tokens.new) }
+    ensures kept { AdvancesOrStays tokens.old tokens.new }
 {
     mark(tokens, Mark::OpenSquare)?;
     let left = value(tokens, out)?;
@@ -66,6 +69,7 @@ fn range(tokens: &mut Tokens, out: &mut Arena<Code, 1025>) -> Result<Ends, Refus
 fn literal(tokens: &mut Tokens, body: &[u8], out: &mut Arenas) -> Result<(), Refusal>
     ensures told { Adds result (literal_at (bytes_of body.now) tokens.old.end tokens.old.left) tokens.new.left emit_term (tables out.old) (tables out.new) }
     ensures moves { OnOk result (Advances tokens.old tokens.new) }
+    ensures kept { AdvancesOrStays tokens.old tokens.new }
 {
     let ends = range(tokens, &mut out.code)?;
     let from = out.bytes.len();
@@ -79,6 +83,7 @@ fn literal(tokens: &mut Tokens, body: &[u8], out: &mut Arenas) -> Result<(), Ref
 fn call(tokens: &mut Tokens, called: Name, out: &mut Arenas) -> Result<(), Refusal>
     ensures told { Adds result (call_at (letters called) tokens.old.end tokens.old.left) tokens.new.left emit_term (tables out.old) (tables out.new) }
     ensures moves { OnOk result (Advances tokens.old tokens.new) }
+    ensures kept { AdvancesOrStays tokens.old tokens.new }
 {
     let ends = range(tokens, &mut out.code)?;
     out.terms.put(Term::Call(called, ends));
@@ -89,6 +94,7 @@ fn call(tokens: &mut Tokens, called: Name, out: &mut Arenas) -> Result<(), Refus
 fn attribute(tokens: &mut Tokens, out: &mut Arenas) -> Result<(), Refusal>
     ensures told { Adds result (attribute_at tokens.old.end tokens.old.left) tokens.new.left emit_term (tables out.old) (tables out.new) }
     ensures moves { OnOk result (Advances tokens.old tokens.new) }
+    ensures kept { AdvancesOrStays tokens.old tokens.new }
 {
     let called = name(tokens)?;
     equals(tokens)?;
@@ -102,6 +108,7 @@ fn attribute(tokens: &mut Tokens, out: &mut Arenas) -> Result<(), Refusal>
 fn guard(tokens: &mut Tokens, out: &mut Arenas) -> Result<(), Refusal>
     ensures told { Adds result (guard_at tokens.old.end tokens.old.left) tokens.new.left emit_term (tables out.old) (tables out.new) }
     ensures moves { OnOk result (Advances tokens.old tokens.new) }
+    ensures kept { AdvancesOrStays tokens.old tokens.new }
 {
     mark(tokens, Mark::Open)?;
     let span = value(tokens, &mut out.code)?;
@@ -110,10 +117,11 @@ fn guard(tokens: &mut Tokens, out: &mut Arenas) -> Result<(), Refusal>
     Ok(())
 }
 
-/// One term, which is appended to the terms. After a refusal the tokens stand anywhere.
+/// One term, which is appended to the terms. After a refusal the tokens stand further on, or where they stood.
 pub fn add_term(tokens: &mut Tokens, out: &mut Arenas) -> Result<(), Refusal>
     ensures told { Adds result (term_at tokens.old.end tokens.old.left) tokens.new.left emit_term (tables out.old) (tables out.new) }
     ensures moves { OnOk result (Advances tokens.old tokens.new) }
+    ensures kept { AdvancesOrStays tokens.old tokens.new }
 {
     let first = take(tokens)?;
     match first.token {

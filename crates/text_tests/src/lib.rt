@@ -22,9 +22,7 @@ mod tests {
         number: u8,
         place: usize,
     ) -> Result<(), Fail> {
-        let Ok(mut draft) = Draft::new(heap) else {
-            return Err(Fail::new("no memory"));
-        };
+        let mut draft = Draft::new(heap)?;
         let answer = draft.append(text);
         assert_eq!(rt; answer.number(), number);
         assert_eq!(rt; place_told(answer), place);
@@ -132,9 +130,7 @@ mod tests {
     // 32 rules, and one more, over two texts.
     #[test]
     fn rules(rt: HostRuntime) -> Result<(), Fail> {
-        let Ok(mut draft) = Draft::new(rt.alloc()) else {
-            return Err(Fail::new("no memory"));
-        };
+        let mut draft = Draft::new(rt.alloc())?;
         for _ in 0..31 {
             let answer = draft.append(b"A: guard(1) ;");
             assert_eq!(rt; answer.number(), 0);
