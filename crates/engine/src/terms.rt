@@ -72,10 +72,8 @@ pub(crate) fn same_at<I: Input>(input: &I, w: Window, bytes: &[u8]) -> bool
     requires { (w.left + length bytes.now ≡ w.right) × (w.right ≤ length (I.Input.shown input.now).bytes) }
     ensures { result ≡ same (bytes_in (I.Input.shown input.now).bytes w) bytes.now }
 {
-    for (i, b) in bytes.iter().enumerate() {
-        if input.byte(w.left + i) != Some(*b) {
-            return false;
-        }
-    }
-    true
+    bytes
+        .iter()
+        .enumerate()
+        .all(|(i, b)| input.byte(w.left + i) == Some(*b))
 }
