@@ -1,5 +1,5 @@
 -- A table of nodes that are moved, entry by entry.
-use Rattle.std.proofs.Common.{◌≡◌, ℕ, ◌+◌, ◌<◌, List, [], ◌∷◌, ◌++◌, map, length, get_or, take, drop, set, sym, ap, ◌∙◌, add-zero, arith, take-append-drop}
+use Rattle.std.proofs.Common.{◌≡◌, ℕ, ◌+◌, ◌<◌, List, [], ◌∷◌, ◌++◌, map, length, get_or, take, drop, set, sym, ap, ◌∙◌, add-zero, arith}
 use Rattle.meaning.specs.declared.node.Node.{Node}
 use Rattle.input.specs.declared.window.Window.{Window}
 use Rattle.engine.specs.Blanks.{blank_node}
@@ -17,9 +17,6 @@ module _ {X : Type 0} (f : X → X) (xs es : List X) (i : ℕ) (done : take i xs
 
   pub rest_next : (y : X) → drop (i + 1) (set xs i y) ≡ drop (i + 1) es
   rest_next y = drop-set-lt (i + 1) xs i y (omega arith) ∙ sym (drop-drop 1 i xs) ∙ ap (drop 1) rest ∙ drop-drop 1 i es
-
-  pub map_all : (k : ℕ) → i ≡ k → xs ≡ map f (take k es) ++ drop k es
-  map_all k e = sym (take-append-drop i xs) ∙ ap (λ z. z ++ drop i xs) done ∙ ap (λ z. map f (take i es) ++ z) rest ∙ ap (λ j. map f (take j es) ++ drop j es) e
 
 pub fits_now : (xs es : List Node) (i left : ℕ) (d : Node) → drop i xs ≡ drop i es → i < length es → NodeFits left (get_or es i blank_node) → NodeFits left (get_or xs i d)
 fits_now xs es i left d rest h fit =

@@ -1,7 +1,7 @@
 -- Refusals, and what is left behind.
-use Rattle.std.proofs.Common.{◌≡◌, ℕ, ◌+◌, ◌-◌, ◌<◌, ◌≤◌, true, leb, List, ◌++◌, map, length, get_or, take, drop, replicate, sym, ap, ◌∙◌, Ok, inl, inr, arith, leb-true}
+use Rattle.std.proofs.Common.{◌≡◌, ℕ, ◌+◌, ◌-◌, ◌<◌, ◌≤◌, true, leb, List, ◌++◌, map, length, get_or, take, drop, replicate, sym, ap, ◌∙◌, Ok, inl, inr, arith, leb-true, length-drop, length-append}
 use Rattle.std.proofs.lemmas.Bool.{and_parts}
-use Rattle.std.proofs.lemmas.List.{get_or-take, length-map, length-take-le, take_at}
+use Rattle.std.proofs.lemmas.List.{length-map, length-take-le, take_at}
 use Rattle.meaning.specs.Meaning as meaning
 use Rattle.meaning.specs.declared.node.Node.{Node}
 use Rattle.input.specs.declared.window.Window.{Window}
@@ -27,14 +27,15 @@ module _ (left : ℕ) (r : Outcome) (run₁ run₂ run₃ : List Node) (o : mean
   pub count_is : r.nodes ≡ length o.nodes
   count_is = sym (length-take-le r.nodes run₁ few) ∙ ap length front
 
-  pub settled : run₂ ≡ map (absolute left) (take r.nodes run₁) ++ drop r.nodes run₁ → run₃ ≡ take r.nodes run₂ ++ replicate (length run₂ - r.nodes) blank_node → (n : ℕ) → length run₂ ≡ n
+  pub settled : run₂ ≡ map (absolute left) (take r.nodes run₁) → run₃ ≡ take r.nodes (run₂ ++ drop r.nodes run₁) ++ replicate (length (run₂ ++ drop r.nodes run₁) - r.nodes) blank_node → (n : ℕ) → length run₁ ≡ n
       → run₃ ≡ map (absolute left) o.nodes ++ replicate (n - length o.nodes) blank_node
   settled e q n h =
-      let m = map (absolute left) (take r.nodes run₁) in
-      let l : length m ≡ r.nodes = length-map (take r.nodes run₁) (absolute left) ∙ length-take-le r.nodes run₁ few in
-      let t : take r.nodes run₂ ≡ m = ap (take r.nodes) e ∙ take_at m (drop r.nodes run₁) r.nodes l in
-      q ∙ ap (λ z. z ++ replicate (length run₂ - r.nodes) blank_node) (t ∙ ap (map (absolute left)) front)
-      ∙ ap (λ z. map (absolute left) o.nodes ++ replicate z blank_node) (ap (λ z. z - r.nodes) h ∙ ap (λ z. n - z) count_is)
+      let rest = drop r.nodes run₁ in
+      let l : length run₂ ≡ r.nodes = ap length e ∙ length-map (take r.nodes run₁) (absolute left) ∙ length-take-le r.nodes run₁ few in
+      let t : take r.nodes (run₂ ++ rest) ≡ run₂ = take_at run₂ rest r.nodes l in
+      let s : length (run₂ ++ rest) ≡ n = omega (arith, length-append run₂ rest, length-drop r.nodes run₁, l, few, h) in
+      q ∙ ap (λ z. z ++ replicate (length (run₂ ++ rest) - r.nodes) blank_node) (t ∙ e ∙ ap (map (absolute left)) front)
+      ∙ ap (λ z. map (absolute left) o.nodes ++ replicate z blank_node) (ap (λ z. z - r.nodes) s ∙ ap (λ z. n - z) count_is)
 
   pub all_left : (w : Window) (frames : List Frame) (f n : ℕ) → w ≡ placed left r.reach → frames ≡ replicate f blank_frame → run₃ ≡ map (absolute left) o.nodes ++ replicate (n - length o.nodes) blank_node
       → ◌≡◌ {A = After} (record { outcome = Ok (record { answer = r.answer; nodes = r.nodes; starts = r.starts; reach = w }); frames = frames; nodes = run₃ }) (leaves left f n o)
@@ -45,10 +46,6 @@ module _ (left : ℕ) (r : Outcome) (run₁ run₂ run₃ : List Node) (o : mean
       let d : r.reach ≡ o.reach = ap (λ (z : meaning.Outcome). z.reach) is in
       let x : w ≡ placed left o.reach = e ∙ ap (placed left) d in
       rw (a, b, x, q, p, count_is)
-
--- a node that a parse means, where the table has it
-pub node_is : (r : Outcome) (nodes : List Node) (o : meaning.Outcome) (i : ℕ) → told r nodes ≡ o → i < r.nodes → get_or nodes i blank_node ≡ get_or o.nodes i blank_node
-node_is r nodes o i e h = sym (get_or-take r.nodes nodes i blank_node h) ∙ ap (λ (z : meaning.Outcome). get_or z.nodes i blank_node) e
 
 -- a window that lies within n places
 abbrev Fit : ℕ → Window → Type 0
@@ -72,10 +69,11 @@ module _ (left n : ℕ) (near : n + left ≤ 16777216) where
         let d : r.reach ≡ o.reach = ap (λ (z : meaning.Outcome). z.reach) is in
         rw d (fit_moves o.reach (part_fits n o.reach (whole n) (omega arith, omega arith) shaped.reached))
 
-    pub nodes_move : r.nodes ≤ length nodes → (i : ℕ) → i < r.nodes → NodeFits left (get_or nodes i blank_node)
-    nodes_move few i k =
-        let c : r.nodes ≡ length o.nodes = count_is left r nodes nodes nodes o is few in
+    pub nodes_move : (i : ℕ) → i < length (take r.nodes nodes) → NodeFits left (get_or (take r.nodes nodes) i blank_node)
+    nodes_move i k =
+        let e : take r.nodes nodes ≡ o.nodes = ap (λ (z : meaning.Outcome). z.nodes) is in
+        let l : length (take r.nodes nodes) ≡ length o.nodes = ap length e in
         let x = get_or o.nodes i blank_node in
         let p = shaped.placed blank_node i (omega arith) in
         let w = inside_fits n x.window p.held in
-        rw (node_is r nodes o i is k) (fit_moves x.window w, fit_moves x.used (part_fits n x.used x.window w p.proper.part))
+        rw e (fit_moves x.window w, fit_moves x.used (part_fits n x.used x.window w p.proper.part))

@@ -54,7 +54,7 @@ impl<'a, I: Input, R: FieldReader> Setting<'a, I, R> {
     {
         let outcome = self.run_window(request, frames, nodes);
         clear(frames);
-        move_nodes(nodes, outcome.nodes, request.window.left);
+        move_nodes(&mut nodes[..outcome.nodes], request.window.left);
         clear_rest(nodes, outcome.nodes);
         Outcome {
             reach: place(outcome.reach, request.window.left),

@@ -1,4 +1,4 @@
-ghost use Rattle.std.specs.Prelude.{◌≡◌, ℕ, ◌+◌, ◌-◌, ◌<◌, ◌≤◌, ◌++◌, map, length, take, drop, replicate, slice_index_or};
+ghost use Rattle.std.specs.Prelude.{◌≡◌, ℕ, ◌+◌, ◌-◌, ◌<◌, ◌≤◌, ◌++◌, map, length, take, replicate, slice_index_or};
 ghost use Rattle.engine.specs.Blanks.{blank_node, blank_frame};
 ghost use Rattle.engine.specs.Places.{placed, absolute, FitAt, NodeFits};
 
@@ -33,17 +33,16 @@ pub(crate) fn place(w: Window, left: usize) -> Window
     }
 }
 
-// The places of the first `count` nodes become those of the input.
-pub(crate) fn move_nodes(nodes: &mut [Node], count: usize, left: usize)
-    requires { (count ≤ length nodes.old) × ((i : ℕ) → i < count → NodeFits left (slice_index_or nodes.old i blank_node)) }
-    ensures { nodes.new ≡ map (absolute left) (take count nodes.old) ++ drop count nodes.old }
+// The places of the nodes become those of the input.
+pub(crate) fn move_nodes(nodes: &mut [Node], left: usize)
+    requires { (i : ℕ) → i < length nodes.old → NodeFits left (slice_index_or nodes.old i blank_node) }
+    ensures { nodes.new ≡ map (absolute left) nodes.old }
 {
-    for i in 0..count {
-        let node = nodes[i];
-        nodes[i] = Node {
+    for node in nodes.iter_mut() {
+        *node = Node {
             window: place(node.window, left),
             used: place(node.used, left),
-            ..node
+            ..*node
         };
     }
 }

@@ -19,7 +19,7 @@ move_nodes-requires g c =
     let shaped = shape rd gr limits c.args.request.rule v in
     let near : length v + c.args.request.window.left ≤ 16777216 = omega (arith, window_length bs.bytes c.args.request.window.left c.args.request.window.right c.requires.0 c.requires.1, bs.short, c.requires.0, c.requires.1) in
     let o = parse rd gr limits c.args.request.rule v in
-    (c.run_window-outcome.ensures.count, nodes_move c.args.request.window.left (length v) near gr limits c.args.request.rule c.run_window-outcome.result c.run_window-outcome.new.nodes o c.run_window-outcome.ensures.told shaped c.run_window-outcome.ensures.count)
+    nodes_move c.args.request.window.left (length v) near gr limits c.args.request.rule c.run_window-outcome.result c.run_window-outcome.new.nodes o c.run_window-outcome.ensures.told shaped
 
 pub place-requires : goal.place-requires
 place-requires g c =
