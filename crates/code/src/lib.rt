@@ -12,7 +12,7 @@ mod name;
 
 pub use name::Name;
 
-#[derive(Clone, PartialEq, Eq, Debug, Drop)]
+#[derive(Clone, Copy, PartialEq, Eq, Debug)]
 pub enum Code {
     Number(u64),
     Eoi,

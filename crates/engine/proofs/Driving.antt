@@ -101,9 +101,9 @@ module _ (grammar : Grammar) (f : Frame) where
   at_end (y ∷ xs) zero e = absurd (let z : ◌≡◌ {A = ℕ} 0 1 = cc in omega arith)
   at_end (y ∷ xs) (suc p) e = at_end xs p e
 
-  pub next_is : (t : Term) → Some t ≡ slice_get here f.place → NextIs grammar f t
+  pub next_is : (t u : Term) → Some t ≡ slice_get here f.place → t ≡ u → NextIs grammar f u
   unfolding NextIs
-  next_is t e = opened here f.place t e
+  next_is t u e q = opened here f.place u (ap Some (sym q) ∙ e)
 
   pub none_next : None ≡ slice_get here f.place → todo_of grammar f ≡ []
   none_next e = at_end here f.place e
@@ -122,10 +122,11 @@ module _ (grammar : Grammar) (bytes : List ℕ) (frames : ℕ) (rs : List Frame)
   unfolding Sound
   within = sound.3
 
-  pub has_try : f.alt < 18446744073709551615
+  pub frame_fits : (t : Term) → NextIs grammar f t → (f.place ≤ f.next) × (f.next < 65536) × (f.alt < 18446744073709551615)
   unfolding Sound
-  has_try = sound.4.2
+  frame_fits t e = (sound.4.3, next_small grammar bytes frames rs nodes count f t sound e, sound.4.2)
 
-  pub has_next : (t : Term) → NextIs grammar f t → (f.place ≤ f.next) × (f.next < 65536)
-  unfolding Sound
-  has_next t e = (sound.4.3, next_small grammar bytes frames rs nodes count f t sound e)
+-- and of a start that is to begin
+pub may_begin : (grammar : Grammar) (bytes : List ℕ) (frames : ℕ) (rs : List Frame) (nodes : List Node) (count : ℕ) (c : Start) → Sound grammar bytes frames rs nodes count (Begins c) → (c.node ≤ length nodes) × Inside grammar bytes c
+unfolding Sound
+may_begin grammar bytes frames rs nodes count c sound = (omega (arith, sound.0, sound.1), sound.3)

@@ -36,11 +36,14 @@ SoundAt q t m = Sound q.grammar q.bytes t.limits.frames (held t.stack) t.nodes.n
 abbrev pub Goes : Subject → Tables → Mode → Tables → Mode → Type 0
 Goes q t m t' m' = Moves q.read q.grammar t.limits q.bytes (stands_at q.grammar t m) (held t'.stack) t'.nodes.now t'.count t'.state m'
 
+-- one step does, where the tables are sound at the mode
+abbrev pub GoesIf : Subject → Tables → Mode → Tables → Mode → Type 0
+GoesIf q t m t' m' = SoundAt q t m → Goes q t m t' m'
+
 -- whatever the readers and the bytes are
 abbrev pub GoesAnyhow : Grammar → Tables → Mode → Tables → Mode → Type 0
 GoesAnyhow grammar t m t' m' =
-    (read : Replies) (bytes : List ℕ) → SoundAt (record { read = read; grammar = grammar; bytes = bytes }) t m
-    → Goes (record { read = read; grammar = grammar; bytes = bytes }) t m t' m'
+    (read : Replies) (bytes : List ℕ) → GoesIf (record { read = read; grammar = grammar; bytes = bytes }) t m t' m'
 
 -- all its steps lead there, and no step is left
 abbrev pub Ends : Subject → Tables → Mode → Tables → Mode → Type 0

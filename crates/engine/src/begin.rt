@@ -1,8 +1,9 @@
-ghost use Rattle.std.specs.Prelude.{◌≡◌, ◌<◌, length};
+ghost use Rattle.std.specs.Prelude.{◌≡◌, ◌<◌, ◌≤◌, length};
 ghost use Rattle.stack.specs.Stacks.{held};
-ghost use Rattle.sealed.specs.Grammars.{grammar_of};
-ghost use Rattle.engine.specs.Configs.{Inside};
-ghost use Rattle.engine.specs.Steps.{subject, SoundAt, Goes, Kept, Answers};
+ghost use Rattle.meaning.specs.Syntax.{Grammar};
+ghost use Rattle.meaning.specs.Meaning.{read_of};
+ghost use Rattle.engine.specs.Configs.{Few};
+ghost use Rattle.engine.specs.Steps.{GoesIf, Kept, Answers};
 ghost use Rattle.engine.specs.declared.mode.Mode.TheVariants.{Begins};
 
 use crate::mode::Mode;
@@ -14,14 +15,14 @@ use meaning::{Answer, Start};
 
 impl<'a> Tables<'a> {
     // A start is let through and made, or stops the parse.
-    #[tactic(auto, using(sealed::proofs::Grammars::few_terms, crate::proofs::Beginning::no_budget, crate::proofs::Beginning::no_frame, crate::proofs::Beginning::no_node, crate::proofs::Beginning::begins_rule), unfolding(crate::specs::Configs::Sound))]
     pub(crate) fn begin<I: Input, R: FieldReader>(
         &mut self,
         setting: &Setting<I, R>,
         c: Start,
     ) -> Mode
-        requires { SoundAt (subject I.Input.shown R.FieldReader.meaning setting.now) self.old (Begins c) }
-        ensures goes { Goes (subject I.Input.shown R.FieldReader.meaning setting.now) self.old (Begins c) self.new result }
+        requires node { c.node ≤ length self.old.nodes.now }
+        requires window { (c.window.left ≤ c.window.right) × (c.window.right ≤ length (I.Input.shown setting.now.input.now).bytes) }
+        ensures goes { (rules : Grammar) → Few rules → GoesIf (record { read = read_of (R.FieldReader.meaning setting.now.readers.now); grammar = rules; bytes = (I.Input.shown setting.now.input.now).bytes }) self.old (Begins c) self.new result }
         ensures kept { Kept self.old self.new }
     {
         if self.state.starts == self.limits.budget {
@@ -44,8 +45,8 @@ impl<'a> Tables<'a> {
     // A reader is asked for its field.
     fn read_field<I: Input, R: FieldReader>(&mut self, setting: &Setting<I, R>, c: Start) -> Mode
         requires node { c.node < length self.old.nodes.now }
-        requires window { Inside (grammar_of setting.now.grammar.now) (I.Input.shown setting.now.input.now).bytes c }
-        ensures answers { Answers (subject I.Input.shown R.FieldReader.meaning setting.now) self.old c self.new result }
+        requires window { (c.window.left ≤ c.window.right) × (c.window.right ≤ length (I.Input.shown setting.now.input.now).bytes) }
+        ensures answers { (rules : Grammar) → Answers (record { read = read_of (R.FieldReader.meaning setting.now.readers.now); grammar = rules; bytes = (I.Input.shown setting.now.input.now).bytes }) self.old c self.new result }
         ensures kept { Kept self.old self.new }
         ensures stack { held self.new.stack ≡ held self.old.stack }
     {

@@ -1,10 +1,12 @@
-ghost use Rattle.std.specs.Prelude.{◌≡◌, ◌<◌, [], length};
+ghost use Rattle.std.specs.Prelude.{◌≡◌, ◌<◌, ◌≤◌, [], length};
+ghost use Rattle.stack.specs.Stacks.{held, room};
 ghost use Rattle.meaning.specs.Syntax.Term.{literal, call, attribute, guard};
 ghost use Rattle.meaning.specs.Syntax.{Grammar};
+ghost use Rattle.meaning.specs.Meaning.{Replies};
 ghost use Rattle.arena.specs.Parts.{part};
 ghost use Rattle.sealed.specs.Grammars.{grammar_of, expr_in};
-ghost use Rattle.engine.specs.Configs.{NextIs, todo_of};
-ghost use Rattle.engine.specs.Steps.{subject, SoundAt, Goes, GoesAnyhow, Kept};
+ghost use Rattle.engine.specs.Configs.{Inside, NextIs, todo_of};
+ghost use Rattle.engine.specs.Steps.{subject, SoundAt, Goes, GoesIf, GoesAnyhow, Kept};
 ghost use Rattle.engine.specs.declared.mode.Mode.TheVariants.{Runs};
 
 use crate::frame::Frame;
@@ -20,7 +22,6 @@ use meaning::Start;
 
 impl<'a> Tables<'a> {
     // An unfinished start runs its next term.
-    #[tactic(auto, using(crate::proofs::Driving::in_use, crate::proofs::Driving::next_is))]
     pub(crate) fn run_next<I: Input, R: FieldReader>(
         &mut self,
         setting: &Setting<I, R>,
@@ -28,7 +29,7 @@ impl<'a> Tables<'a> {
         numbers: &mut [u64; PENDING],
     ) -> Mode
         requires { SoundAt (subject I.Input.shown R.FieldReader.meaning setting.now) self.old (Runs f) }
-        ensures goes { Goes (subject I.Input.shown R.FieldReader.meaning setting.now) self.old (Runs f) self.new result }
+        ensures goes { (read : Replies) → Goes (record { read = read; grammar = grammar_of setting.now.grammar.now; bytes = (I.Input.shown setting.now.input.now).bytes }) self.old (Runs f) self.new result }
         ensures kept { Kept self.old self.new }
     {
         let Some(t) = setting.grammar.term(f.what.number, f.alt, f.place) else {
@@ -43,7 +44,6 @@ impl<'a> Tables<'a> {
     }
 
     // A guard lets its alternative go on, or not.
-    #[tactic(auto, using(crate::proofs::Driving::in_use, crate::proofs::Driving::has_try, crate::proofs::Driving::has_next))]
     fn run_guard<I: Input, R: FieldReader>(
         &mut self,
         setting: &Setting<I, R>,
@@ -51,9 +51,9 @@ impl<'a> Tables<'a> {
         f: Frame,
         numbers: &mut [u64; PENDING],
     ) -> Mode
-        requires sound { SoundAt (subject I.Input.shown R.FieldReader.meaning setting.now) self.old (Runs f) }
-        requires next { NextIs (grammar_of setting.now.grammar.now) f (guard (expr_in setting.now.grammar.now e)) }
-        ensures goes { Goes (subject I.Input.shown R.FieldReader.meaning setting.now) self.old (Runs f) self.new result }
+        requires table { f.what.node < self.old.count }
+        requires frame { (f.place ≤ f.next) × (f.next < 65536) × (f.alt < 18446744073709551615) }
+        ensures goes { (rules : Grammar) → NextIs rules f (guard (expr_in setting.now.grammar.now e)) → GoesAnyhow rules self.old (Runs f) self.new result }
         ensures kept { Kept self.old self.new }
     {
         let Some(v) = self.value_of(setting.grammar, e, f, numbers) else {
@@ -66,7 +66,6 @@ impl<'a> Tables<'a> {
     }
 
     // An attribute's value goes into its slot.
-    #[tactic(auto, using(crate::proofs::Driving::in_use, crate::proofs::Driving::has_try, crate::proofs::Driving::has_next))]
     fn run_attribute<I: Input, R: FieldReader>(
         &mut self,
         setting: &Setting<I, R>,
@@ -75,9 +74,9 @@ impl<'a> Tables<'a> {
         f: Frame,
         numbers: &mut [u64; PENDING],
     ) -> Mode
-        requires sound { SoundAt (subject I.Input.shown R.FieldReader.meaning setting.now) self.old (Runs f) }
-        requires next { NextIs (grammar_of setting.now.grammar.now) f (attribute k (expr_in setting.now.grammar.now e)) }
-        ensures goes { Goes (subject I.Input.shown R.FieldReader.meaning setting.now) self.old (Runs f) self.new result }
+        requires table { f.what.node < self.old.count }
+        requires frame { (f.place ≤ f.next) × (f.next < 65536) × (f.alt < 18446744073709551615) }
+        ensures goes { (rules : Grammar) → NextIs rules f (attribute k (expr_in setting.now.grammar.now e)) → GoesAnyhow rules self.old (Runs f) self.new result }
         ensures kept { Kept self.old self.new }
     {
         let Some(v) = self.value_of(setting.grammar, e, f, numbers) else {
@@ -91,7 +90,6 @@ impl<'a> Tables<'a> {
     }
 
     // A literal reads its window.
-    #[tactic(auto, using(crate::proofs::Driving::in_use, crate::proofs::Driving::has_try, crate::proofs::Driving::has_next))]
     fn run_literal<I: Input, R: FieldReader>(
         &mut self,
         setting: &Setting<I, R>,
@@ -100,9 +98,10 @@ impl<'a> Tables<'a> {
         f: Frame,
         numbers: &mut [u64; PENDING],
     ) -> Mode
-        requires sound { SoundAt (subject I.Input.shown R.FieldReader.meaning setting.now) self.old (Runs f) }
-        requires next { NextIs (grammar_of setting.now.grammar.now) f (literal (part bytes setting.now.grammar.now.bytes.items) (expr_in setting.now.grammar.now ends.left) (expr_in setting.now.grammar.now ends.right)) }
-        ensures goes { Goes (subject I.Input.shown R.FieldReader.meaning setting.now) self.old (Runs f) self.new result }
+        requires table { f.what.node < self.old.count }
+        requires frame { (f.place ≤ f.next) × (f.next < 65536) × (f.alt < 18446744073709551615) }
+        requires window { Inside (grammar_of setting.now.grammar.now) (I.Input.shown setting.now.input.now).bytes f.what }
+        ensures goes { (read : Replies) (rules : Grammar) → NextIs rules f (literal (part bytes setting.now.grammar.now.bytes.items) (expr_in setting.now.grammar.now ends.left) (expr_in setting.now.grammar.now ends.right)) → GoesIf (record { read = read; grammar = rules; bytes = (I.Input.shown setting.now.input.now).bytes }) self.old (Runs f) self.new result }
         ensures kept { Kept self.old self.new }
     {
         let Some(w) = self.window_of(setting.grammar, ends, f, numbers) else {
@@ -120,7 +119,6 @@ impl<'a> Tables<'a> {
     }
 
     // A call puts its start aside and begins another.
-    #[tactic(auto, using(crate::proofs::Driving::in_use, crate::proofs::Driving::has_try, crate::proofs::Driving::has_next))]
     fn run_call<I: Input, R: FieldReader>(
         &mut self,
         setting: &Setting<I, R>,
@@ -129,9 +127,10 @@ impl<'a> Tables<'a> {
         f: Frame,
         numbers: &mut [u64; PENDING],
     ) -> Mode
-        requires sound { SoundAt (subject I.Input.shown R.FieldReader.meaning setting.now) self.old (Runs f) }
-        requires next { NextIs (grammar_of setting.now.grammar.now) f (call number (expr_in setting.now.grammar.now ends.left) (expr_in setting.now.grammar.now ends.right)) }
-        ensures goes { Goes (subject I.Input.shown R.FieldReader.meaning setting.now) self.old (Runs f) self.new result }
+        requires table { f.what.node < self.old.count }
+        requires frame { (f.place ≤ f.next) × (f.next < 65536) × (f.alt < 18446744073709551615) }
+        requires stack { length (held self.old.stack) < length (room self.old.stack) }
+        ensures goes { (rules : Grammar) → NextIs rules f (call number (expr_in setting.now.grammar.now ends.left) (expr_in setting.now.grammar.now ends.right)) → GoesAnyhow rules self.old (Runs f) self.new result }
         ensures kept { Kept self.old self.new }
     {
         let Some(window) = self.window_of(setting.grammar, ends, f, numbers) else {

@@ -2,6 +2,7 @@
 use Rattle.std.proofs.Common.{◌≡◌, ℕ, zero, suc, ◌-◌, ◌<◌, ◌≤◌, List, [], ◌∷◌, ◌++◌, length, take, Some, None, Ok, Err, Result, sym, refl, ap, ◌∙◌, subst, append_assoc, append-nil, arith}
 use Rattle.token.specs.declared.Mark.TheVariants.{Open, Close}
 use Rattle.operators.specs.declared.Op.{Op}
+use Rattle.token.specs.Ahead.{Ahead}
 use Rattle.token.specs.Tokens.{Tok}
 use Rattle.token.specs.Tokens as lexeme
 use Rattle.arena.specs.declared.store.Arena.{Arena}
@@ -140,6 +141,14 @@ module _ (item : Reader) (toks rest : List Tok) (before out : List Piece) (first
       two ∙ ap (λ r. and_then r (λ right rest. ok (binary o first.0 right) rest)) read.1,
       onward before out later (encode first.0) (encode read.0 ++ piece.operator o ∷ []) first.2 (onward out mid later (encode read.0) (piece.operator o ∷ []) read.2 put),
     )
+
+-- a first sum that is refused
+pub first_refused : (item : Reader) (toks left : List Tok) (before later : List Piece) (e : Refusal) → Wrote (Err e) (item toks) left before later → Wrote (Err e) (and_then (item toks) (λ left rest. compared item left rest)) left before later
+first_refused item toks left before later e told = (refused_too e (item toks) _ told.0, told.1)
+
+-- ---- the same tokens, read by another cursor
+pub forked : (a b : Ahead) → a ≡ b → (d : ℕ) (r : Result (Unit {0}) Refusal) (left : List Tok) (before later : List Piece) → Wrote r (expression_at a.end d a.left) left before later → Wrote r (expression_at b.end d b.left) left before later
+forked a b same d r left before later told = subst (λ (x : Ahead). Wrote r (expression_at x.end d x.left) left before later) same told
 
 -- ---- a bracket
 pub opens : (end d : ℕ) → 0 < d → inner end d ≡ Some (expression_at end (d - 1))

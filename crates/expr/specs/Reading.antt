@@ -156,7 +156,7 @@ marked m (t ∷ ts) = is_mark m t.1
 
 -- a mark was taken; or another token stands next, or none
 abbrev pub TakesMark : Mark → Ahead → Bool → Ahead → Type 0
-TakesMark m old true new = (new.end ≡ old.end) × (t : Tok) × (old.left ≡ t ∷ new.left) × (is_mark m t.1 ≡ true)
+TakesMark m old true new = (new.end ≡ old.end) × (t : Tok) × (old.left ≡ t ∷ new.left) × (is_mark m t.1 ≡ true) × (new.text ≡ old.text)
 TakesMark m old false new = (new ≡ old) × (marked m old.left ≡ false)
 
 -- the operator of a level that stands first
@@ -166,7 +166,7 @@ operator_first l (t ∷ ts) = operator_at l t.1
 
 -- an operator of a level was taken; or none stands next
 abbrev pub TakesOperator : Level → Ahead → Option Op → Ahead → Type 0
-TakesOperator l old (Some o) new = (new.end ≡ old.end) × (t : Tok) × (old.left ≡ t ∷ new.left) × (operator_at l t.1 ≡ Some o)
+TakesOperator l old (Some o) new = (new.end ≡ old.end) × (t : Tok) × (old.left ≡ t ∷ new.left) × (operator_at l t.1 ≡ Some o) × (new.text ≡ old.text)
 TakesOperator l old None new = (new ≡ old) × (operator_first l old.left ≡ None)
 
 -- what was wanted stood there

@@ -1,7 +1,7 @@
 // Expressions of a grammar text: read token by token, and written as code.
 #![tactic(auto)]
 
-ghost use Rattle.std.specs.Prelude.{◌≡◌, OnOk};
+ghost use Rattle.std.specs.Prelude.{◌≡◌, OnOk, OnErr};
 ghost use Rattle.token.specs.Ahead.{Advances, AdvancesOrStays};
 ghost use Rattle.code.specs.Names.{letters};
 ghost use Rattle.code.specs.Pieces.{codes};
@@ -47,9 +47,10 @@ fn level_of(op: Op) -> Level
 fn operator(tokens: &mut Tokens, level: Level) -> Option<Op>
     ensures { TakesOperator level tokens.old result tokens.new }
 {
-    match tokens.peek()?.token {
+    let mut ahead = tokens.fork();
+    match ahead.next()?.token {
         Token::Operator(op) if level_of(op) == level => {
-            tokens.next();
+            *tokens = ahead;
             Some(op)
         }
         _ => None,
@@ -159,17 +160,20 @@ fn sum(tokens: &mut Tokens, deeper: usize, out: &mut Codes) -> Result<(), Refusa
     joined(tokens, Level::Sum, deeper, out)
 }
 
-/// An expression with at most `deeper` brackets open: its code is appended. After a refusal the tokens stand further on, or where they stood.
+/// An expression with at most `deeper` brackets open: its code is appended. A refusal leaves the tokens where they stood.
 #[cycle(expression)]
 pub fn expression(tokens: &mut Tokens, deeper: usize, out: &mut Codes) -> Result<(), Refusal>
     ensures told { Wrote result (expression_at tokens.old.end deeper tokens.old.left) tokens.new.left (codes out.old) (codes out.new) }
     ensures moves { OnOk result (Advances tokens.old tokens.new) }
     ensures kept { AdvancesOrStays tokens.old tokens.new }
+    ensures stays { OnErr result (tokens.new ≡ tokens.old) }
 {
-    sum(tokens, deeper, out)?;
-    if let Some(op) = operator(tokens, Level::Compare) {
-        sum(tokens, deeper, out)?;
+    let mut ahead = tokens.fork();
+    sum(&mut ahead, deeper, out)?;
+    if let Some(op) = operator(&mut ahead, Level::Compare) {
+        sum(&mut ahead, deeper, out)?;
         emit(out, Code::Operator(op));
     }
+    *tokens = ahead;
     Ok(())
 }

@@ -1,6 +1,8 @@
 ghost use Rattle.std.specs.Prelude.{◌≡◌, Some, None, MatchOption};
 ghost use Rattle.fields.specs.Kinds.{number_of, name_of, kind_named, Decodes};
 
+use crate::names::{RAW, U8, U16LE, U32LE, U64LE};
+
 /// What a built-in reader reads: a number of 1, 2, 4 or 8 bytes with the lowest first, or bytes as they are.
 #[derive(Clone, Copy, PartialEq, Eq, Debug)]
 pub enum Kind {
@@ -22,11 +24,11 @@ impl TryFrom<u16> for Kind {
 
     fn try_from(number: u16) -> Result<Kind, UnknownReader> {
         match number {
-            32 => Ok(Kind::U8),
-            33 => Ok(Kind::U16Le),
-            35 => Ok(Kind::U32Le),
-            37 => Ok(Kind::U64Le),
-            40 => Ok(Kind::Raw),
+            U8 => Ok(Kind::U8),
+            U16LE => Ok(Kind::U16Le),
+            U32LE => Ok(Kind::U32Le),
+            U64LE => Ok(Kind::U64Le),
+            RAW => Ok(Kind::Raw),
             _ => Err(UnknownReader(number)),
         }
     }
@@ -52,11 +54,11 @@ impl Kind {
         ensures { result ≡ number_of self }
     {
         match self {
-            Kind::U8 => 32,
-            Kind::U16Le => 33,
-            Kind::U32Le => 35,
-            Kind::U64Le => 37,
-            Kind::Raw => 40,
+            Kind::U8 => U8,
+            Kind::U16Le => U16LE,
+            Kind::U32Le => U32LE,
+            Kind::U64Le => U64LE,
+            Kind::Raw => RAW,
         }
     }
 

@@ -3,6 +3,16 @@ ghost use Rattle.fields.specs.Names.{reader_table, number_in, name_in};
 
 use crate::kind::Kind;
 
+pub const U8: u16 = 32;
+
+pub const U16LE: u16 = 33;
+
+pub const U32LE: u16 = 35;
+
+pub const U64LE: u16 = 37;
+
+pub const RAW: u16 = 40;
+
 /// The name of a built-in reader, by its number.
 pub fn reader_name(number: u16) -> Option<&'static str>
     ensures { MatchOption result (name_in reader_table number ≡ None) (λ name. name_in reader_table number ≡ Some name.now) }

@@ -60,7 +60,7 @@ length_shows list (e ∷ errata) = length_shows (over list e.place e.bytes) erra
 
 -- the erratum that an entry holds
 abbrev pub erratum_of : Patch → Erratum
-erratum_of p = record { place = p.place; bytes = p.bytes.items }
+erratum_of p = record { place = p.place; bytes = take p.len p.bytes }
 
 -- bytes that an entry can hold are held; others are refused
 abbrev pub Holds : (place : ℕ) → (bytes : List ℕ) → Result Patch Refusal → Type 0

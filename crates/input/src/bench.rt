@@ -47,9 +47,11 @@ impl<I: Input> Bench<I> {
         if self.count == MOST_PATCHES {
             return Err(Refusal::PatchesFull);
         }
-        let entry = &mut self.table[self.count];
+        let i = self.count;
+        let table = &mut self.table;
+        let entry = &mut table[i];
         *entry = patch;
-        self.count += 1;
+        self.count = i + 1;
         Ok(())
     }
 
@@ -62,9 +64,11 @@ impl<I: Input> Bench<I> {
         if self.count == 0 {
             return Err(Refusal::NoPatch);
         }
-        self.count -= 1;
-        let entry = &mut self.table[self.count];
+        let i = self.count - 1;
+        let table = &mut self.table;
+        let entry = &mut table[i];
         *entry = Patch::default();
+        self.count = i;
         Ok(())
     }
 

@@ -1,29 +1,37 @@
-ghost use Rattle.std.specs.Prelude.{◌≡◌};
-ghost use Rattle.input.specs.Errata.{erratum_at, erratum_of, Holds};
+ghost use Rattle.std.specs.Prelude.{◌≡◌, ◌≤◌};
 
 use crate::refusal::Refusal;
-use arrayvec::ArrayVec;
 
 /// The most bytes of a patch.
 const LONGEST_PATCH: usize = 8;
 
-/// An entry of the patch table: some bytes, and the place from which they are shown. A blank one has no bytes.
-#[derive(Default, Drop)]
+/// An entry of the patch table: some bytes, and the place from which they are shown. Of `bytes` the first `len` count; a blank one has none.
+#[derive(Clone, Copy)]
 pub struct Patch {
     place: usize,
-    bytes: ArrayVec<u8, LONGEST_PATCH>,
+    len: usize,
+    bytes: [u8; LONGEST_PATCH],
+    ghost small: { len ≤ 8 },
 }
 
 impl Patch {
+    ghost use Rattle.input.specs.Errata.{erratum_at, erratum_of, Holds};
+
     /// The patch of some bytes at a place, if they are as many as an entry can hold.
     pub fn new(place: usize, bytes: &[u8]) -> Result<Patch, Refusal>
         ensures { Holds place bytes.now result }
     {
-        if bytes.is_empty() {
+        let len = bytes.len();
+        if len == 0 || len > LONGEST_PATCH {
             return Err(Refusal::PatchLength);
         }
-        let bytes = ArrayVec::try_from(bytes).map_err(|_| Refusal::PatchLength)?;
-        Ok(Patch { place, bytes })
+        let mut held = [0; LONGEST_PATCH];
+        held[..len].copy_from_slice(bytes);
+        Ok(Patch {
+            place,
+            len,
+            bytes: held,
+        })
     }
 
     /// The byte that it shows at a place, if any.
@@ -31,6 +39,25 @@ impl Patch {
         ensures { result ≡ erratum_at (erratum_of self.now) place }
     {
         let from = place.checked_sub(self.place)?;
-        self.bytes.get(from).copied()
+        if from < self.len {
+            self.bytes.get(from).copied()
+        } else {
+            None
+        }
+    }
+}
+
+impl Default for Patch {
+    ghost use Rattle.std.specs.Prelude.{[]};
+    ghost use Rattle.input.specs.Errata.{erratum_of};
+
+    ghost is_default = { λ p. erratum_of p ≡ record { place = 0; bytes = [] } };
+
+    fn default() -> Patch {
+        Patch {
+            place: 0,
+            len: 0,
+            bytes: [0; LONGEST_PATCH],
+        }
     }
 }

@@ -11,7 +11,7 @@ ghost use Rattle.lookup.specs.Lookup.{place_in, latest_in, among, callee};
 
 use arena::{Arena, Term};
 use fields::reader_number;
-use names::is_attribute;
+use names::attribute_named;
 use term::{NamedTerm, Rule};
 
 /// The number of the rule that has the name.
@@ -50,5 +50,5 @@ pub fn sets_attribute(terms: &[NamedTerm], name: &[u8]) -> bool
     ensures named { result ≡ list_any (attribute_is name.now) (map entry terms.now) }
     ensures set { result ≡ among (map sets_entry (map entry terms.now)) name.now }
 {
-    terms.iter().any(|term| is_attribute(term, name))
+    attribute_named(terms, name)
 }

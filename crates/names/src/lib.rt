@@ -29,3 +29,10 @@ pub fn is_attribute(term: &NamedTerm, name: &[u8]) -> bool
 {
     matches!(term, Term::Attribute((other, _), _) if other.bytes() == name)
 }
+
+/// Whether one of the terms sets the attribute of the name.
+pub fn attribute_named(terms: &[NamedTerm], name: &[u8]) -> bool
+    ensures { result ≡ list_any (λ t. attribute_is name.now (entry t)) terms.now }
+{
+    terms.iter().any(|term| is_attribute(term, name))
+}

@@ -1,7 +1,7 @@
 // Alternatives and rules of a grammar text, read token by token into arenas.
 #![tactic(auto)]
 
-ghost use Rattle.std.specs.Prelude.{◌≡◌, OnOk};
+ghost use Rattle.std.specs.Prelude.{◌≡◌, OnOk, OnErr};
 ghost use Rattle.token.specs.Ahead.{Advances, AdvancesOrStays};
 ghost use Rattle.term.specs.Reading.{Adds};
 ghost use Rattle.term.specs.Tables.{tables};
@@ -34,11 +34,15 @@ fn branch_end(tokens: &mut Tokens) -> Result<bool, Refusal>
     }
 }
 
-/// One or more rules, up to the end of the text. After a refusal the tokens stand further on, or where they stood.
+/// One or more rules, up to the end of the text. A refusal leaves the tokens where they stood.
 pub fn add_rules(tokens: &mut Tokens, out: &mut Arenas) -> Result<(), Refusal>
     ensures told { Adds result (rules_at tokens.old.end tokens.old.left) tokens.new.left (emit_all emit_rule) (tables out.old) (tables out.new) }
     ensures moves { OnOk result (Advances tokens.old tokens.new) }
     ensures kept { AdvancesOrStays tokens.old tokens.new }
+    ensures stays { OnErr result (tokens.new ≡ tokens.old) }
 {
-    add_all::<Rules>(tokens, out)
+    let mut ahead = tokens.fork();
+    add_all::<Rules>(&mut ahead, out)?;
+    *tokens = ahead;
+    Ok(())
 }

@@ -1,6 +1,6 @@
 -- Names noted one by one, nine at most, are the front of all names noted.
 use Rattle.std.proofs.Common.{◌≡◌, ℕ, suc, ◌+◌, ◌<◌, ◌≤◌, Bool, true, false, cond, List, [], ◌∷◌, ◌++◌, map, length, get_or, take, Some, None, Option, is_some, nat_lt, sym, refl, ap, ◌∙◌, ⊎_elim, arith, length-append, length-take}
-use Rattle.std.proofs.lemmas.List.{take_all}
+use Rattle.std.proofs.lemmas.List.{length-map, take_all}
 use Rattle.std.proofs.lemmas.List.Folds.{fold-map}
 use Rattle.std.proofs.lemmas.List.Sums.{fold_more}
 use Rattle.std.proofs.lemmas.Simd.{map-map}
@@ -25,7 +25,9 @@ use Rattle.names.specs.Stored.{is_name, sets_entry}
 use Rattle.lookup.specs.Lookup.{place_in, among, noted, noted_all, noted_in, slots_of, sets}
 use Rattle.lookup.proofs.Agrees.{all_set}
 use Rattle.lookup.proofs.Views.{any_seen}
-use Rattle.slots.specs.Tables.{kept}
+use Rattle.code.specs.Names.{letters}
+use Rattle.slots.specs.declared.table.Slots.{Slots}
+use Rattle.slots.specs.Tables.{listed, kept}
 
 both_more : (a b : ℕ) → nat_lt a b ≡ nat_lt (1 + a) (suc b)
 both_more a b = grind (arith, nat_tests)
@@ -71,6 +73,9 @@ full seen (Some w) h = go (among (map Some seen) w) refl
 
 pub filled : (seen : List (List ℕ)) (v : Option (List ℕ)) → length seen ≡ 9 → seen ≡ kept seen v
 filled seen v h = sym (full seen v (omega arith) ∙ take_all 9 seen (omega arith))
+
+pub listed_length : (s : Slots) → length (listed s) ≡ s.len
+listed_length s = omega (arith, length-map (take s.len s.names) letters, length-take s.len s.names, s.whole, s.few)
 
 -- one name more
 kept_front : (seen : List (List ℕ)) (v : Option (List ℕ)) → kept (take 9 seen) v ≡ take 9 (noted seen v)

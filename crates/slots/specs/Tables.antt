@@ -5,7 +5,7 @@ use Rattle.lookup.specs.Lookup.{noted}
 use Rattle.slots.specs.declared.table.Slots.{Slots}
 
 abbrev pub listed : Slots → List (List ℕ)
-listed s = map letters s.names.items
+listed s = map letters (take s.len s.names)
 
 -- a name more, nine at most
 abbrev pub kept : List (List ℕ) → Option (List ℕ) → List (List ℕ)

@@ -1,46 +1,63 @@
-ghost use Rattle.std.specs.Prelude.{◌≡◌, [], length, Some};
-ghost use Rattle.code.specs.Names.{letters};
-ghost use Rattle.lookup.specs.Lookup.{place_in};
-ghost use Rattle.slots.specs.Tables.{listed, kept};
+ghost use Rattle.std.specs.Prelude.{◌≡◌, ◌≤◌, length};
 
-use arrayvec::ArrayVec;
 use code::Name;
 
-/// Up to nine names. A rule has at most eight attribute names, so nine tell that there are too many; further ones are dropped.
-#[derive(Clone, PartialEq, Eq, Debug, Drop)]
+/// The most names that a table holds.
+const ROOM: usize = 9;
+
+/// Up to nine names. A rule has at most eight attribute names, so nine tell that there are too many; further ones are dropped. Of `names` the first `len` stand.
+#[derive(Clone, Copy, PartialEq, Eq, Debug)]
 pub struct Slots {
-    names: ArrayVec<Name, 9>,
+    names: [Name; ROOM],
+    len: usize,
+    ghost whole: { length names ≡ 9 },
+    ghost few: { len ≤ 9 },
 }
 
 impl Slots {
+    ghost use Rattle.std.specs.Prelude.{[], take, Some};
+    ghost use Rattle.code.specs.Names.{letters};
+    ghost use Rattle.lookup.specs.Lookup.{place_in};
+    ghost use Rattle.slots.specs.Tables.{listed, kept};
+
     /// A table without names.
     pub fn none() -> Slots
         ensures { listed result ≡ [] }
     {
-        let names = ArrayVec::new();
-        Slots { names }
+        Slots {
+            names: [Name::of(b""); ROOM],
+            len: 0,
+        }
+    }
+
+    // The names that stand.
+    fn held(&self) -> &[Name]
+        ensures { result.now ≡ take self.now.len self.now.names }
+    {
+        &self.names[..self.len]
     }
 
     /// How many names stand there.
     pub fn count(&self) -> usize
         ensures { result ≡ length (listed self.now) }
     {
-        self.names.len()
+        self.held().len()
     }
 
     /// The slot of a name: its place among the names.
     pub fn slot(&self, name: &[u8]) -> Option<usize>
         ensures { result ≡ place_in (listed self.now) name.now }
     {
-        self.names.iter().position(|other| other.bytes() == name)
+        self.held().iter().position(|other| other.bytes() == name)
     }
 
     /// Appends a name, unless it stands there or there is no more room.
     pub fn note(&mut self, name: &Name)
         ensures { listed self.new ≡ kept (listed self.old) (Some (letters name.now)) }
     {
-        if !self.names.is_full() && self.slot(name.bytes()).is_none() {
-            self.names.push(Name::of(name.bytes()));
+        if self.len < ROOM && self.slot(name.bytes()).is_none() {
+            self.names[self.len] = *name;
+            self.len += 1;
         }
     }
 }

@@ -9,7 +9,7 @@ use std::alloc::{AllocError, Global};
 pub type NamedTerm = Term<Name, (Name, usize)>;
 
 /// A rule: its name, the name's place in the text, and its part of the alternatives.
-#[derive(Clone, PartialEq, Eq, Debug, Drop)]
+#[derive(Clone, Copy, PartialEq, Eq, Debug)]
 pub struct Rule {
     pub name: Name,
     pub place: usize,

@@ -1,7 +1,7 @@
 // Terms of a grammar text, read token by token into arenas.
 #![tactic(auto)]
 
-ghost use Rattle.std.specs.Prelude.{◌≡◌, OnOk};
+ghost use Rattle.std.specs.Prelude.{◌≡◌, OnOk, OnErr};
 ghost use Rattle.token.specs.Ahead.{Advances, AdvancesOrStays};
 ghost use Rattle.strings.specs.Decoding.{bytes_of};
 ghost use Rattle.code.specs.Names.{letters};
@@ -117,8 +117,8 @@ fn guard(tokens: &mut Tokens, out: &mut Arenas) -> Result<(), Refusal>
     Ok(())
 }
 
-/// One term, which is appended to the terms. After a refusal the tokens stand further on, or where they stood.
-pub fn add_term(tokens: &mut Tokens, out: &mut Arenas) -> Result<(), Refusal>
+// The same, where a refusal may leave the tokens further on.
+fn read_term(tokens: &mut Tokens, out: &mut Arenas) -> Result<(), Refusal>
     ensures told { Adds result (term_at tokens.old.end tokens.old.left) tokens.new.left emit_term (tables out.old) (tables out.new) }
     ensures moves { OnOk result (Advances tokens.old tokens.new) }
     ensures kept { AdvancesOrStays tokens.old tokens.new }
@@ -131,4 +131,17 @@ pub fn add_term(tokens: &mut Tokens, out: &mut Arenas) -> Result<(), Refusal>
         Token::Guard => guard(tokens, out),
         _ => Err(Refusal::Form(first.place)),
     }
+}
+
+/// One term, which is appended to the terms. A refusal leaves the tokens where they stood.
+pub fn add_term(tokens: &mut Tokens, out: &mut Arenas) -> Result<(), Refusal>
+    ensures told { Adds result (term_at tokens.old.end tokens.old.left) tokens.new.left emit_term (tables out.old) (tables out.new) }
+    ensures moves { OnOk result (Advances tokens.old tokens.new) }
+    ensures kept { AdvancesOrStays tokens.old tokens.new }
+    ensures stays { OnErr result (tokens.new ≡ tokens.old) }
+{
+    let mut ahead = tokens.fork();
+    read_term(&mut ahead, out)?;
+    *tokens = ahead;
+    Ok(())
 }

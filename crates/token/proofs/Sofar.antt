@@ -1,5 +1,5 @@
 -- Where the token reader stands.
-use Rattle.std.proofs.Common.{◌≡◌, ℕ, min, List, Some, None, Option, IfSome, Ok, Err, Result, IfOk, length, drop, refl, sym, ap, ◌∙◌, inl, inr, arith, drop_of_length-le}
+use Rattle.std.proofs.Common.{◌≡◌, ℕ, ◌<◌, min, List, [], Some, None, Option, IfSome, Ok, Err, Result, IfOk, length, drop, refl, sym, ap, ◌∙◌, inl, inr, arith, drop_of_length-le}
 use Rattle.std.specs.Result.{result_unwrap_or}
 use Rattle.std.proofs.lemmas.Bool.{cases_lt}
 use Rattle.token.specs.declared.Placed.{Placed}
@@ -7,6 +7,10 @@ use Rattle.token.specs.declared.scan.NoToken.{NoToken}
 use Rattle.token.specs.Tokens.{lexed, toks, tokens_at, found, first_bad, bad_token, lexeme, Spans, NextIs}
 
 -- no token stands after the end
+pub past_end : (bs : List ℕ) (at : ℕ) → length bs < at → tokens_at bs at ≡ []
+unfolding tokens_at lexed
+past_end bs at h = ap (λ l. toks (lexed at l)) (drop_of_length-le bs (omega arith))
+
 pub within : (bs : List ℕ) (at m : ℕ) → m ≡ min at (length bs) → tokens_at bs m ≡ tokens_at bs at
 unfolding tokens_at lexed
 within bs at m h = elim (cases_lt at (length bs)) [

@@ -3,7 +3,7 @@
 
 ghost use Rattle.std.specs.Prelude.{◌≡◌};
 ghost use Rattle.token.specs.Classes.{mark_class, byte_class, class_of};
-ghost use Rattle.token.specs.Tokens.{lexeme, is_mark, is_operator, bad_token};
+ghost use Rattle.token.specs.Tokens.{lexeme, is_mark, is_operator, NextIs, bad_token};
 ghost use Rattle.token.specs.Laid.{TokensStand};
 
 use operators::Op;
@@ -11,7 +11,7 @@ use operators::Op;
 mod scan;
 mod tokens;
 
-use scan::{NoToken, scan};
+use scan::{NoToken, next_from, scan};
 pub use tokens::Tokens;
 
 #[derive(Clone, Copy, PartialEq, Eq, Debug)]
@@ -129,6 +129,16 @@ fn class_of(rest: &[u8]) -> Class
         [b'<', b'<', ..] => Class::Operator(Op::Shift),
         [b, ..] => byte_class(*b),
     }
+}
+
+/// The next token from a place on, with the place after it; none at the end of the text or before what is no token.
+pub fn next<'a>(text: &'a [u8], at: usize) -> Option<(Placed<'a>, usize)>
+    ensures { NextIs text.now at result }
+{
+    if at > text.len() {
+        return None;
+    }
+    next_from(text, at)
 }
 
 /// The first place of a text that has no token.

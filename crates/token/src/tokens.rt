@@ -1,5 +1,6 @@
-ghost use Rattle.std.specs.Prelude.{◌≡◌, ◌≤◌, length};
+ghost use Rattle.std.specs.Prelude.{◌≡◌, ◌≤◌, length, min};
 ghost use Rattle.std.specs.Iterator.{item_count};
+ghost use Rattle.token.specs.Tokens.{tokens_at};
 ghost use Rattle.token.specs.Ahead.{Ahead, ahead, Takes, Peeks};
 
 use super::Placed;
@@ -31,7 +32,8 @@ impl<'a> Tokens<'a> {
 
     /// The tokens from a place on; none where the text ends before it.
     pub fn starting_at(text: &'a [u8], at: usize) -> Tokens<'a>
-        ensures { result ≡ ahead text.now at }
+        ensures stands { result ≡ ahead text.now (min at (length text.now)) }
+        ensures left { result.left ≡ tokens_at text.now at }
     {
         let at = at.min(text.len());
         Tokens { text, at }
@@ -42,6 +44,23 @@ impl<'a> Tokens<'a> {
         ensures { result ≡ self.now.end }
     {
         self.text.len()
+    }
+
+    /// Where the reader of the text stands: before the separators and the token that are next.
+    pub fn place(&self) -> usize
+        ensures { result ≡ self.now.place }
+    {
+        self.at
+    }
+
+    /// The same tokens once more: reading the one leaves the other where it stands.
+    pub fn fork(&self) -> Tokens<'a>
+        ensures { result ≡ self.now }
+    {
+        Tokens {
+            text: self.text,
+            at: self.at,
+        }
     }
 
     /// The next token, which stays there.

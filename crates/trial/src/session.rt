@@ -168,7 +168,10 @@ impl Session {
         line: &[u8],
         out: &mut W,
     ) -> Result<(), Fault> {
-        let command = read_command(line).ok_or(Fault::NotUnderstood)?;
-        self.obey(rt, command, out)
+        match read_command(line).ok_or(Fault::NotUnderstood)? {
+            // a line with nothing to do stays off the path of the others, which costs it half as much again
+            Command::Skip => Ok(()),
+            command => self.obey(rt, command, out),
+        }
     }
 }

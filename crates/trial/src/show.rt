@@ -10,8 +10,10 @@ pub fn show<I: Input, W: Write>(input: &I, window: Window, out: &mut W) -> io::R
         return writeln!(out, "show refused {}", Refusal::BadWindow.number());
     }
     write!(out, "show")?;
-    for byte in (window.left..window.right).filter_map(|place| input.byte(place)) {
-        write!(out, " {byte:02x}")?;
+    for place in window.left..window.right {
+        if let Some(byte) = input.byte(place) {
+            write!(out, " {byte:02x}")?;
+        }
     }
     writeln!(out)
 }

@@ -7,29 +7,42 @@ use Rattle.code.specs.Pieces.{codes}
 use Rattle.expr.specs.Trees as tree
 use Rattle.expr.specs.Reading.{Wrote, mark_at, named_at, sum_at, part_at, operand_at, joined_at, expression_at}
 use Rattle.token.specs.declared.Mark.TheVariants.{Close}
-use Rattle.expr.proofs.Turns.{there, reads_there, refuses_there, begins, no_operator, item_refused, goes_on, second_refused, both_sides, bracket_refused, bracket_open, bracket_closed}
+use Rattle.expr.proofs.Turns.{there, reads_there, refuses_there, begins, no_operator, item_refused, goes_on, alone, first_refused, second_refused, both_sides, forked, bracket_refused, bracket_open, bracket_closed}
 use Rattle.expr.proofs.+expression.Goals as goal
+
+pub expression-returns-in_err-sum-clause-told : goal.expression-returns-in_err-sum-clause-told
+expression-returns-in_err-sum-clause-told t c =
+    let p = err_from_is_err_and c.from_residual.result c.from_residual.ensures.1 in
+    let a = c.fork-ahead.result in
+    rw (p.1, p.2) (forked a c.args.tokens.now c.fork-ahead.ensures c.args.deeper (Err c.in_err-sum.field-0.0) c.sum.new.tokens.left (codes c.args.out.now) (codes c.sum.new.out) (first_refused (sum_at a.end c.args.deeper) a.left c.sum.new.tokens.left (codes c.args.out.now) (codes c.sum.new.out) c.in_err-sum.field-0.0 c.in_err-sum.ensures.told))
 
 pub expression-returns-in_err-sum-2-clause-told : goal.expression-returns-in_err-sum-2-clause-told
 expression-returns-in_err-sum-2-clause-told t c =
     let p = err_from_is_err_and c.from_residual-in_err-sum-2.result c.from_residual-in_err-sum-2.ensures.1 in
-    let now = c.args.tokens.now in
+    let a = c.fork-ahead.result in
     let op = c.in-Some.ensures in
     let next = c.operator.new.tokens in
     let left = c.sum-in-Some.new.tokens.left in
-    let same = op.0 ∙ c.in_ok-sum.ensures.moves.same_text in
+    let same = op.0 ∙ c.in_ok-sum.ensures.moves.same_end in
     let told = there same (λ n. sum_at n c.args.deeper) next.left left (Err c.in_err-sum-2.field-0.0) (codes c.sum.new.out) (codes c.sum-in-Some.new.out) c.in_err-sum-2.ensures.told in
-    rw (p.1, p.2) (second_refused (sum_at now.end c.args.deeper) now.left c.sum.new.tokens.left (codes c.args.out.now) (codes c.sum.new.out) c.in_ok-sum.ensures.told op.1 next.left c.in-Some.op op.2 op.3 _ left (codes c.sum-in-Some.new.out) told)
+    rw (p.1, p.2) (forked a c.args.tokens.now c.fork-ahead.ensures c.args.deeper (Err c.in_err-sum-2.field-0.0) left (codes c.args.out.now) (codes c.sum-in-Some.new.out) (second_refused (sum_at a.end c.args.deeper) a.left c.sum.new.tokens.left (codes c.args.out.now) (codes c.sum.new.out) c.in_ok-sum.ensures.told op.1 next.left c.in-Some.op op.2 op.3 _ left (codes c.sum-in-Some.new.out) told))
 
 pub expression-returns-in_ok-sum-2-clause-told : goal.expression-returns-in_ok-sum-2-clause-told
 expression-returns-in_ok-sum-2-clause-told t c =
-    let now = c.args.tokens.now in
+    let a = c.fork-ahead.result in
     let op = c.in-Some.ensures in
     let next = c.operator.new.tokens in
     let left = c.sum-in-Some.new.tokens.left in
-    let same = op.0 ∙ c.in_ok-sum.ensures.moves.same_text in
+    let same = op.0 ∙ c.in_ok-sum.ensures.moves.same_end in
     let told = there same (λ n. sum_at n c.args.deeper) next.left left (Ok tt) (codes c.sum.new.out) (codes c.sum-in-Some.new.out) c.in_ok-sum-2.ensures.told in
-    both_sides (sum_at now.end c.args.deeper) now.left c.sum.new.tokens.left (codes c.args.out.now) (codes c.sum.new.out) c.in_ok-sum.ensures.told op.1 next.left c.in-Some.op op.2 op.3 left (codes c.sum-in-Some.new.out) (codes c.emit.new.out) told c.emit.ensures
+    forked a c.args.tokens.now c.fork-ahead.ensures c.args.deeper (Ok tt) left (codes c.args.out.now) (codes c.emit.new.out) (both_sides (sum_at a.end c.args.deeper) a.left c.sum.new.tokens.left (codes c.args.out.now) (codes c.sum.new.out) c.in_ok-sum.ensures.told op.1 next.left c.in-Some.op op.2 op.3 left (codes c.sum-in-Some.new.out) (codes c.emit.new.out) told c.emit.ensures)
+
+pub expression-returns-in_default-clause-told : goal.expression-returns-in_default-clause-told
+expression-returns-in_default-clause-told t c =
+    let a = c.fork-ahead.result in
+    let none = c.in_default.ensures in
+    let told = alone (sum_at a.end c.args.deeper) a.left c.sum.new.tokens.left (codes c.args.out.now) (codes c.sum.new.out) c.in_ok-sum.ensures.told none.1 in
+    forked a c.args.tokens.now c.fork-ahead.ensures c.args.deeper (Ok tt) c.operator.new.tokens.left (codes c.args.out.now) (codes c.sum.new.out) (subst (λ x. Wrote (Ok tt) (expression_at a.end c.args.deeper a.left) x.left (codes c.args.out.now) (codes c.sum.new.out)) (sym none.0) told)
 
 pub joined-loop-op-init : goal.joined-loop-op-init
 joined-loop-op-init t c =
@@ -44,7 +57,7 @@ joined-returns-in_err-operand-2-clause-told t c =
     let op = c.in-Some.ensures in
     let next = c.operator.new.tokens in
     let left = c.operand-in-Some.new.tokens.left in
-    let same = op.0 ∙ c.loop-op.invariant.0.same_text in
+    let same = op.0 ∙ c.loop-op.invariant.0.same_end in
     let told = there same (λ n. operand_at c.args.level n c.args.deeper) next.left left (Err c.in_err-operand-2.field-0.0) (codes c.loop-op.out) (codes c.operand-in-Some.new.out) c.in_err-operand-2.ensures.told in
     rw (p.1, p.2) (item_refused (operand_at c.args.level now.end c.args.deeper) c.args.level now.left c.operand.new.tokens.left (codes c.args.out.now) (codes c.operand.new.out) c.in_ok-operand.ensures.told c.loop-op.tokens.left (codes c.loop-op.out) c.loop-op.invariant.1 op.1 next.left c.in-Some.op op.2 op.3 _ left (codes c.operand-in-Some.new.out) told)
 
@@ -56,10 +69,10 @@ joined-loop-op-preserved t c =
     let left = c.operand-in-Some.new.tokens.left in
     let read = c.in_ok-operand-2.ensures in
     let before = c.loop-op.invariant.0 in
-    let same = op.0 ∙ before.same_text in
+    let same = op.0 ∙ before.same_end in
     let told = there same (λ n. operand_at c.args.level n c.args.deeper) next.left left (Ok tt) (codes c.loop-op.out) (codes c.operand-in-Some.new.out) read.told in
     let long = ap length op.2 in
-    (record { same_text = read.moves.same_text ∙ same; fewer = omega (arith, read.moves.fewer, long, before.fewer) }, goes_on (operand_at c.args.level now.end c.args.deeper) c.args.level now.left c.operand.new.tokens.left (codes c.args.out.now) (codes c.operand.new.out) c.in_ok-operand.ensures.told c.loop-op.tokens.left (codes c.loop-op.out) c.loop-op.invariant.1 op.1 next.left c.in-Some.op op.2 op.3 left (codes c.operand-in-Some.new.out) (codes c.emit.new.out) told read.moves.fewer c.emit.ensures)
+    (record { same_text = read.moves.same_text ∙ op.4 ∙ before.same_text; same_end = read.moves.same_end ∙ same; fewer = omega (arith, read.moves.fewer, long, before.fewer) }, goes_on (operand_at c.args.level now.end c.args.deeper) c.args.level now.left c.operand.new.tokens.left (codes c.args.out.now) (codes c.operand.new.out) c.in_ok-operand.ensures.told c.loop-op.tokens.left (codes c.loop-op.out) c.loop-op.invariant.1 op.1 next.left c.in-Some.op op.2 op.3 left (codes c.operand-in-Some.new.out) (codes c.emit.new.out) told read.moves.fewer c.emit.ensures)
 
 pub joined-returns-clause-told : goal.joined-returns-clause-told
 joined-returns-clause-told t c =
@@ -86,7 +99,7 @@ part-returns-in_err-mark-in-Mark-Open-clause-told t c =
     let inner = c.in_ok-expression-in-Mark-Open.ensures in
     let rest = c.expression.new.tokens in
     let told = there first.0 (λ n. expression_at n (c.args.deeper - 1)) next.left rest.left (Ok tt) (codes c.args.out.now) (codes c.expression.new.out) inner.told in
-    let unshut = refuses_there (inner.moves.same_text ∙ first.0) (mark_at Close) rest.left c.in_err-mark-in-Mark-Open.field-0.0 c.in_err-mark-in-Mark-Open.ensures.told in
+    let unshut = refuses_there (inner.moves.same_end ∙ first.0) (mark_at Close) rest.left c.in_err-mark-in-Mark-Open.field-0.0 c.in_err-mark-in-Mark-Open.ensures.told in
     rw (p.1, p.2) (bracket_open now.end c.args.deeper now.left next.left (shown c.in_ok-first.first) (omega arith) first.1 (search rules) (codes c.args.out.now) (codes c.expression.new.out) rest.left told _ c.mark.new.tokens.left unshut)
 
 pub part-returns-in-Number-clause-told : goal.part-returns-in-Number-clause-told
@@ -112,5 +125,5 @@ part-returns-in_ok-mark-in-Mark-Open-clause-told t c =
     let inner = c.in_ok-expression-in-Mark-Open.ensures in
     let rest = c.expression.new.tokens in
     let told = there first.0 (λ n. expression_at n (c.args.deeper - 1)) next.left rest.left (Ok tt) (codes c.args.out.now) (codes c.expression.new.out) inner.told in
-    let shut = reads_there (inner.moves.same_text ∙ first.0) (mark_at Close) rest.left c.mark.new.tokens.left tt c.in_ok-mark-in-Mark-Open.ensures.told in
+    let shut = reads_there (inner.moves.same_end ∙ first.0) (mark_at Close) rest.left c.mark.new.tokens.left tt c.in_ok-mark-in-Mark-Open.ensures.told in
     bracket_closed now.end c.args.deeper now.left next.left (shown c.in_ok-first.first) (omega arith) first.1 (search rules) (codes c.args.out.now) (codes c.expression.new.out) rest.left told c.mark.new.tokens.left (codes c.emit-in-Mark-Open.new.out) shut c.emit-in-Mark-Open.ensures

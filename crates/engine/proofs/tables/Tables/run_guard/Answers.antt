@@ -1,25 +1,21 @@
 use Rattle.stack.specs.Stacks.{held}
-use Rattle.engine.specs.Steps.{subject}
 use Rattle.engine.proofs.Running.{guard_none, guard_zero, guard_goes}
 use Rattle.engine.proofs.tables.Tables.run_guard.Goals as goal
 
 pub returns-in_default-clause-goes : goal.returns-in_default-clause-goes
-returns-in_default-clause-goes g c =
-    let q = subject g.I.Input.shown g.R.FieldReader.meaning c.args.setting.now in
+returns-in_default-clause-goes g c = λ rules next read bytes sound.
     let t = c.args.self.now in
     let f = c.args.f in
-    guard_none q.read q.grammar t.limits q.bytes (held t.stack) t.nodes.now t.count t.state f c.requires.sound _ c.requires.next _ c.next_try.ensures c.in_default.ensures
+    guard_none read rules t.limits bytes (held t.stack) t.nodes.now t.count t.state f sound _ next _ c.next_try.ensures c.in_default.ensures
 
 pub returns-then-v-eq0-clause-goes : goal.returns-then-v-eq0-clause-goes
-returns-then-v-eq0-clause-goes g c =
-    let q = subject g.I.Input.shown g.R.FieldReader.meaning c.args.setting.now in
+returns-then-v-eq0-clause-goes g c = λ rules next read bytes sound.
     let t = c.args.self.now in
     let f = c.args.f in
-    guard_zero q.read q.grammar t.limits q.bytes (held t.stack) t.nodes.now t.count t.state f c.requires.sound _ c.requires.next _ c.in-Some.v c.next_try-then-v-eq0.ensures c.in-Some.ensures c.if-v-eq0.true
+    guard_zero read rules t.limits bytes (held t.stack) t.nodes.now t.count t.state f sound _ next _ c.in-Some.v c.next_try-then-v-eq0.ensures c.in-Some.ensures c.if-v-eq0.true
 
 pub returns-clause-goes : goal.returns-clause-goes
-returns-clause-goes g c =
-    let q = subject g.I.Input.shown g.R.FieldReader.meaning c.args.setting.now in
+returns-clause-goes g c = λ rules next read bytes sound.
     let t = c.args.self.now in
     let f = c.args.f in
-    guard_goes q.read q.grammar t.limits q.bytes (held t.stack) t.nodes.now t.count t.state f c.requires.sound _ c.requires.next _ c.in-Some.v c.onward.ensures c.in-Some.ensures c.if-v-eq0.false
+    guard_goes read rules t.limits bytes (held t.stack) t.nodes.now t.count t.state f sound _ next _ c.in-Some.v c.onward.ensures c.in-Some.ensures c.if-v-eq0.false

@@ -29,5 +29,5 @@ returns-clause-told c =
     let to = c.len-to.ensures ∙ sym (length-map (stored later.terms) entry) in
     let span : ◌≡◌ {A = Span} (record { from = c.len-from.result; to = c.len-to.result }) (between (tables before).terms (tables later).terms) = cc (from, to) in
     let put = is_alternative (tables before) (tables later) read.told.0 (stored c.put.new.self) (record { from = c.len-from.result; to = c.len-to.result }) read.told.2 c.put.ensures span in
-    let told = subst (λ n. Ends c.branch_end.result (branch_end n rest.left) c.branch_end.new.tokens.left) read.moves.same_text c.branch_end.ensures.told in
+    let told = subst (λ n. Ends c.branch_end.result (branch_end n rest.left) c.branch_end.new.tokens.left) read.moves.same_end c.branch_end.ensures.told in
     alternative_ends now.end now.left rest.left c.branch_end.new.tokens.left (tables before) _ read.told.0 c.branch_end.result read.told.1 put told

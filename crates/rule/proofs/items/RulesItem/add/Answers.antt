@@ -16,8 +16,8 @@ unfolding alternatives_at
 returns-in_err-add_all-clause-told c =
     let p = err_from_is_err_and c.from_residual-in_err-add_all.result c.from_residual-in_err-add_all.ensures.1 in
     let bad = c.in_err-add_all.ensures.told in
-    let first = c.in_ok-called.ensures.moves.same_text in
-    let second = c.in_ok-mark.ensures.moves.same_text ∙ first in
+    let first = c.in_ok-called.ensures.moves.same_end in
+    let second = c.in_ok-mark.ensures.moves.same_end ∙ first in
     let marked = reads_there first (mark_at Colon) c.name.new.tokens.left c.mark.new.tokens.left tt c.in_ok-mark.ensures.told in
     let refused = refuses_there second alternatives_at c.mark.new.tokens.left c.in_err-add_all.field-0.0 bad.0 in
     rw (p.1, p.2) (search rules, bad.1)
@@ -38,8 +38,8 @@ returns-clause-told c =
     let span : ◌≡◌ {A = Span} (record { from = c.len-from.result; to = c.len-to.result }) (between (tables before).alternatives (tables later).alternatives) = cc (c.len-from.ensures, c.len-to.ensures) in
     let put = put_head (stored later.rules) (stored c.put.new.self) (record { name = c.in_ok-called.called; place = place; alternatives = record { from = c.len-from.result; to = c.len-to.result } }) (record { name = w; place = place; branches = record { from = c.len-from.result; to = c.len-to.result } }) c.put.ensures refl in
     let told : ◌≡◌ {A = Head} (record { name = w; place = place; branches = record { from = c.len-from.result; to = c.len-to.result } }) (record { name = w; place = place; branches = between (tables before).alternatives (tables later).alternatives }) = ap (λ s. record { name = w; place = place; branches = s }) span in
-    let marked = reads_there n.moves.same_text (mark_at Colon) c.name.new.tokens.left c.mark.new.tokens.left tt m.told in
-    let several = reads_there (m.moves.same_text ∙ n.moves.same_text) alternatives_at c.mark.new.tokens.left rest read.told.0 read.told.1 in
+    let marked = reads_there n.moves.same_end (mark_at Colon) c.name.new.tokens.left c.mark.new.tokens.left tt m.told in
+    let several = reads_there (m.moves.same_end ∙ n.moves.same_end) alternatives_at c.mark.new.tokens.left rest read.told.0 read.told.1 in
     let reads = rule_reads now.end now.left c.name.new.tokens.left c.mark.new.tokens.left rest (place, w) read.told.0 n.told marked several in
     let last : none_left rest ≡ c.is_none.result = search rules in
     (r, reads ∙ ap (λ b. ok (r, b) rest) last, is_rule (tables before) (tables later) r _ _ read.told.2 put told)

@@ -4,7 +4,7 @@ use Rattle.code.specs.Names.{letters}
 use Rattle.term.specs.Form.{call_at, term_at}
 use Rattle.term.specs.Tables.{tables, emit_term}
 use Rattle.term.specs.Reading.{Adds}
-use Rattle.term.proofs.add_term.Goals as goal
+use Rattle.term.proofs.read_term.Goals as goal
 
 pub returns-in-Name-clause-told : goal.returns-in-Name-clause-told
 returns-in-Name-clause-told c =
